@@ -16,11 +16,11 @@ with_none None = refl
 with_none (Some all) = refl
 
 abbrev whole : Option (List ℕ) → Source ℕ
-whole known = record { remaining = known; errors = 0; empty_reads = 0; loans = []; crcs = λ _. [] }
+whole known = record { remaining = known; errors = 0; empty_reads = 0; loans = []; values = λ _. [] }
 
 -- the source of a reader of which nothing was read so far
 abbrev pub IsUnread : Source ℕ → Option (List ℕ) → Type 0
-IsUnread source known = source ≡ record { remaining = prepend_known [] known; errors = 0; empty_reads = 0; loans = []; crcs = λ _. [] }
+IsUnread source known = source ≡ record { remaining = prepend_known [] known; errors = 0; empty_reads = 0; loans = []; values = λ _. [] }
 
 still_unread : {I : Type 0} (source : I → Source ℕ) (input : I) (known : Option (List ℕ)) → IsUnread (source input) known → bytes_in source input ≡ unread known
 unfolding bytes_in

@@ -1,5 +1,4 @@
 -- Views of a `FlacReader` for contracts, and what it lends.
-pub use Rattle.claxon.specs.ShownHead.{HasBitDepth, comment_tags, comment_vendor}
 use Rattle.std.specs.Prelude.{Bool, ℕ, Option, List}
 use Rattle.std.specs.declared.alloc.Allocator.{Ghosts}
 use Rattle.std.specs.Borrow.{Lends, MutBor, Fml, RattleType}

@@ -33,7 +33,7 @@ use Rattle.claxon.specs.declared.reader.FlacReader.{FlacReader}
 abbrev pub unread : Option (List ℕ) → State ℕ
 unread known =
     state_of (λ all. all)
-    (record { remaining = known; errors = 0; empty_reads = 0; loans = []; crcs = λ _. [] })
+    (record { remaining = known; errors = 0; empty_reads = 0; loans = []; values = λ _. [] })
 
 -- P of the remaining bytes of the reader, where they are known
 abbrev pub IfKnown : {R : Type 0} → (R → Option (List ℕ)) → R → (List ℕ → Type 0) → Type 0

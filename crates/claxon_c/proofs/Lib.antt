@@ -18,8 +18,12 @@ pub mod HeadersAtStart
 pub mod SeekCalls
 -- What the call returns that seeks to a sample and decodes its block.
 pub mod SeekBlockCalls
+-- Numbers of samples, stored one after another.
+pub mod NumbersStored
 -- Samples of one channel after another.
 pub mod PlanarSamples
+-- The same samples, interleaved.
+pub mod PlanarHashing
 -- What calls return for the next tag in the content of a Vorbis comment block.
 pub mod TagCalls
 -- Entries of Vorbis comments in memory, one by one.

@@ -12,7 +12,7 @@ use Rattle.claxon_c.specs.declared.heads.ClaxonInfo.{ClaxonInfo}
 use Rattle.claxon_c.specs.declared.next_block.ClaxonBlock.{ClaxonBlock}
 use Rattle.claxon_c.specs.Info.{known_info}
 use Rattle.claxon_c.specs.NextBlock.{InterleavedArePut, ShowsInfo}
-use Rattle.claxon_c.specs.Seek.{CSeekBlockIsComplete, CSeekBlockIsSound, CSeekBlockIsTooLarge, CSeekNoMoreIsNone, CSeekNoneIsNoMore, CSeekOutOfMemoryAfterHeader, CSeekStopsOverBudget, IsGiven, IsSeekBlockStatus, SeekBlockIsKept, ShowsFrame}
+use Rattle.claxon_c.specs.Seek.{CSeekBlockIsComplete, CSeekBlockIsSound, CSeekBlockIsTooLarge, CSeekNoMoreFitsBudget, CSeekNoMoreIsNone, CSeekNoneIsNoMore, CSeekOutOfMemoryAfterHeader, CSeekStopsOverBudget, IsGiven, IsSeekBlockStatus, SeekBlockIsKept, ShowsFrame}
 use Rattle.claxon_c.specs.Status.{buffer_too_small, ok}
 use Rattle.claxon_c.proofs.BlockCalls.{says_block}
 use Rattle.claxon_c.proofs.SeekCalls.{CSeekPromises}
@@ -26,6 +26,7 @@ pub record CSeekBlockPromises (info : ClaxonInfo) (bytes : List ℕ) (sample bud
   pub none_is_no_more : CSeekNoneIsNoMore info bytes sample status
   pub is_seek_block_status : IsSeekBlockStatus status
   pub stops_over_budget : CSeekStopsOverBudget info bytes sample status budget
+  pub no_more_fits_budget : CSeekNoMoreFitsBudget info bytes sample status budget
   pub out_of_memory_after_header : CSeekOutOfMemoryAfterHeader info bytes sample status
   pub is_kept : SeekBlockIsKept status from to block shown old new
 
@@ -60,6 +61,7 @@ module _ (info : ClaxonInfo) (bytes : List ℕ) (sample budget from : ℕ) (bloc
     none_is_no_more = k.none_is_no_more;
     is_seek_block_status = inl k.is_search_status;
     stops_over_budget = k.stops_over_budget;
+    no_more_fits_budget = k.no_more_fits_budget;
     out_of_memory_after_header = k.out_of_memory_after_header;
     is_kept = record { frame = λ other. (refl, refl); samples = λ other. refl };
   }
@@ -95,6 +97,7 @@ module _ (info : ClaxonInfo) (bytes : List ℕ) (sample budget from : ℕ) (bloc
       none_is_no_more = λ none. absurd (none found.frame.position after found.frame.block wanted);
       is_seek_block_status = inl (inl refl);
       stops_over_budget = λ q. absurd cc;
+      no_more_fits_budget = λ q. absurd cc;
       out_of_memory_after_header = λ q. absurd cc;
       is_kept = record { frame = λ other. absurd (other (inl refl)); samples = λ other. absurd (other refl) };
     }
@@ -113,6 +116,7 @@ module _ (info : ClaxonInfo) (bytes : List ℕ) (sample budget from : ℕ) (bloc
       none_is_no_more = λ none. absurd (none found.frame.position after found.frame.block wanted);
       is_seek_block_status = inr refl;
       stops_over_budget = λ q. absurd cc;
+      no_more_fits_budget = λ q. absurd cc;
       out_of_memory_after_header = λ q. absurd cc;
       is_kept = record { frame = λ other. absurd (other (inr refl)); samples = λ other. same };
     }

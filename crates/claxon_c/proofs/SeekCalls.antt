@@ -15,7 +15,7 @@ use Rattle.claxon_c.specs.declared.heads.ClaxonInfo.{ClaxonInfo}
 use Rattle.claxon_c.specs.declared.next_block.ClaxonBlock.{ClaxonBlock}
 use Rattle.claxon_c.specs.Info.{known_info}
 use Rattle.claxon_c.specs.NextBlock.{ShowsInfo}
-use Rattle.claxon_c.specs.Seek.{CBudgetIsSpent, CFindOutOfMemoryAfterHeader, CFirstIsFound, CFoundIsFirst, CNoMoreIsNone, CNoneIsNoMore, CSeekIsComplete, CSeekIsSound, CSeekNoMoreIsNone, CSeekNoneIsNoMore, CSeekOutOfMemoryAfterHeader, CSeekStopsOverBudget, CStopsOverBudget, CUndecidedIsFirst, FoundBlockIsKept, IsSearchStatus, SearchIsKept, SeekIsKept}
+use Rattle.claxon_c.specs.Seek.{CBudgetIsSpent, CFindOutOfMemoryAfterHeader, CFirstIsFound, CFoundIsFirst, CNoMoreIsNone, CNoneIsNoMore, CSeekIsComplete, CSeekIsSound, CSeekNoMoreFitsBudget, CSeekNoMoreIsNone, CSeekNoneIsNoMore, CSeekOutOfMemoryAfterHeader, CSeekStopsOverBudget, CStopsOverBudget, CUndecidedIsFirst, FoundBlockIsKept, IsSearchStatus, SearchIsKept, SeekIsKept}
 use Rattle.claxon_c.specs.Status.{no_more, ok, out_of_memory, over_budget}
 
 -- ---- the first frame of the stream
@@ -133,6 +133,7 @@ pub record CSeekPromises (info : ClaxonInfo) (bytes : List ℕ) (sample budget s
   pub none_is_no_more : CSeekNoneIsNoMore info bytes sample status
   pub is_search_status : IsSearchStatus status
   pub stops_over_budget : CSeekStopsOverBudget info bytes sample status budget
+  pub no_more_fits_budget : CSeekNoMoreFitsBudget info bytes sample status budget
   pub out_of_memory_after_header : CSeekOutOfMemoryAfterHeader info bytes sample status
   pub is_kept : SeekIsKept status from to block shown
 
@@ -151,6 +152,7 @@ module _ (info : ClaxonInfo) (bytes : List ℕ) (sample budget from : ℕ) (bloc
         none_is_no_more = λ none. absurd (none at.position g.0 at.block g.1);
         is_search_status = inl refl;
         stops_over_budget = λ is. absurd cc;
+        no_more_fits_budget = λ is. absurd cc;
         out_of_memory_after_header = λ is. absurd cc;
         is_kept = λ no. absurd (no refl);
       }
@@ -161,11 +163,12 @@ module _ (info : ClaxonInfo) (bytes : List ℕ) (sample budget from : ℕ) (bloc
       let g = seeks_there (Ok (NotFound undecided)) gives in
       record {
         is_sound = λ is. absurd cc;
-        is_complete = λ n said after frame. absurd (g n after said frame);
-        no_more_is_none = λ is. g;
+        is_complete = λ n said after frame. absurd (g.0 n after said frame);
+        no_more_is_none = λ is. g.0;
         none_is_no_more = λ none. inl refl;
         is_search_status = inr (inl refl);
         stops_over_budget = λ is. absurd cc;
+        no_more_fits_budget = λ is. g.1;
         out_of_memory_after_header = λ is. absurd cc;
         is_kept = λ no. (refl, refl);
       }
@@ -180,7 +183,8 @@ module _ (info : ClaxonInfo) (bytes : List ℕ) (sample budget from : ℕ) (bloc
         no_more_is_none = λ is. absurd cc;
         none_is_no_more = λ none. inr (inl refl);
         is_search_status = inr (inr (inl refl));
-        stops_over_budget = λ is. (to, g.0, g.1);
+        stops_over_budget = λ is. (to, g);
+        no_more_fits_budget = λ is. absurd cc;
         out_of_memory_after_header = λ is. absurd cc;
         is_kept = λ no. (refl, refl);
       }
@@ -196,6 +200,7 @@ module _ (info : ClaxonInfo) (bytes : List ℕ) (sample budget from : ℕ) (bloc
         none_is_no_more = λ none. inr (inr refl);
         is_search_status = inr (inr (inr refl));
         stops_over_budget = λ is. absurd cc;
+        no_more_fits_budget = λ is. absurd cc;
         out_of_memory_after_header = λ is. g.1;
         is_kept = λ no. (refl, refl);
       }

@@ -7,6 +7,8 @@ pub mod NextBlock
 pub mod Seek
 pub mod NextTag
 pub mod TagReader
+pub mod TagName
 pub mod CrcCall
 pub mod HashCalls
+pub mod Convert
 pub mod Version

@@ -31,6 +31,7 @@ use Rattle.claxon_seek.specs.Find.{
   WantedFrame,
   WantedHeader,
 }
+use Rattle.claxon_seek.specs.Seek.{FitsBudget, PassesInVain}
 use Rattle.claxon_seek.specs.declared.search.FoundBlock.{FoundBlock}
 use Rattle.claxon_c.specs.declared.heads.ClaxonInfo.{ClaxonInfo}
 use Rattle.claxon_c.specs.declared.next_block.ClaxonBlock.{ClaxonBlock}
@@ -158,12 +159,16 @@ module _ (info : ClaxonInfo) (bytes : List ℕ) (sample status : ℕ) where
       → (status ≡ no_more) ⊎ IsGivenUp status
 
   -- `over_budget` only where the headers of such frames pass the budget at a position, and no such
-  -- frame begins before it.
+  -- frame begins up to it, or at it.
   abbrev pub CSeekStopsOverBudget : ℕ → Type 0
   CSeekStopsOverBudget budget =
       status ≡ over_budget
-      → (at : ℕ) × NoFrameBetween (known_info info) (Some sample) bytes info.first_frame at
-      × PassesBudget (known_info info) (Some sample) bytes info.first_frame budget at
+      → (at : ℕ) × PassesInVain (known_info info) bytes info.first_frame sample budget at
+
+  -- `no_more` only where the headers of such frames don't pass it.
+  abbrev pub CSeekNoMoreFitsBudget : ℕ → Type 0
+  CSeekNoMoreFitsBudget budget =
+      status ≡ no_more → FitsBudget (known_info info) bytes info.first_frame sample budget
 
   -- `out_of_memory` only for such a frame whose header is there.
   abbrev pub CSeekOutOfMemoryAfterHeader : Type 0

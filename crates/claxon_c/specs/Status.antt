@@ -5,6 +5,7 @@ use Rattle.std.specs.Prelude.{
   ℕ,
   ◌-◌,
   ◌<◌,
+  ◌==◌,
   if◌then◌else◌,
   List,
   [],
@@ -46,6 +47,21 @@ over_budget = 7
 -- as much of a text as the capacity allows, and a zero byte
 abbrev pub zero_terminated : List ℕ → ℕ → List ℕ
 zero_terminated text capacity = take (capacity - 1) text ++ 0 ∷ []
+
+-- what a status means; 100 and 101 are those of `claxon_stream.h`
+abbrev pub status_text : ℕ → List ℕ
+status_text status =
+    if status == ok then codes "ok" else
+    if status == format_error then codes "the stream is ill-formed" else
+    if status == unsupported then codes "the stream has something that isn't supported" else
+    if status == input_ends then codes "the bytes end too early" else
+    if status == out_of_memory then codes "out of memory" else
+    if status == no_more then codes "there is no more" else
+    if status == buffer_too_small then codes "the samples don't fit" else
+    if status == over_budget then codes "the search stopped at its budget" else
+    if status == 100 then codes "more bytes are needed" else
+    if status == 101 then codes "reading or seeking failed" else
+    codes "unknown status"
 
 -- The buffer begins with that, if it isn't empty, and its rest is unchanged.
 abbrev pub TextIsPut : List ℕ → List ℕ → List ℕ → Type 0

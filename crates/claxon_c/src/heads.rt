@@ -1,7 +1,7 @@
 //! The head of a stream.
 ghost use Rattle.std.specs.Prelude.{◌≡◌, IfSome};
 ghost use Rattle.claxon.specs.ReadHead.{found_view};
-ghost use Rattle.claxon.specs.FlacReader.{HasBitDepth};
+ghost use Rattle.claxon.specs.ShownHead.{HasBitDepth};
 ghost use Rattle.claxon_c.specs.Info.{InfoShows, known_info};
 ghost use Rattle.claxon_c.specs.HeadCalls.{
   CHeadFaultIsComplete,

@@ -4,6 +4,7 @@
 #![tactic(auto)]
 
 mod contents;
+mod convert;
 mod crc;
 mod heads;
 mod interleave;

@@ -1,8 +1,10 @@
 //! The MD5 sum of samples.
-ghost use Rattle.std.specs.Prelude.{[]};
+ghost use Rattle.std.specs.Prelude.{[], length};
 ghost use Rattle.claxon_md5.specs.HasHashed.{HasHashed};
 ghost use Rattle.claxon_c.specs.HashCalls.{
   COtherDepthIsUnsupported,
+  COtherPlanarIsUnsupported,
+  CPlanarAreHashed,
   CSamplesAreHashed,
   CSumIsFound,
   HasherIsKept,
@@ -31,6 +33,30 @@ pub extern "C" fn claxon_md5_samples(hasher: &mut Md5, samples: &[i32], bits_per
         return UNSUPPORTED;
     }
     hasher.update_samples(samples, bits_per_sample);
+    OK
+}
+
+/// Hashes planar samples, those of one channel after those of another, as `claxon_md5_samples` the same samples interleaved.
+#[unsafe(no_mangle)]
+pub extern "C" fn claxon_md5_planar(
+    hasher: &mut Md5,
+    samples: &[i32],
+    channels: u32,
+    bits_per_sample: u32,
+) -> u32
+    ensures are_hashed { CPlanarAreHashed bits_per_sample channels samples.now result
+        hasher.old hasher.new }
+    ensures other_is_unsupported { COtherPlanarIsUnsupported bits_per_sample channels
+        (length samples.now) result }
+    ensures hasher_is_kept { HasherIsKept result hasher.old hasher.new }
+{
+    if bits_per_sample == 0 || bits_per_sample > 32 || channels == 0 || channels > 8 {
+        return UNSUPPORTED;
+    }
+    if samples.len() % channels as usize != 0 {
+        return UNSUPPORTED;
+    }
+    hasher.update_planar(samples, channels, bits_per_sample);
     OK
 }
 

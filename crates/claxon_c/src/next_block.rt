@@ -1,5 +1,5 @@
 //! Blocks, one after another.
-ghost use Rattle.std.specs.Prelude.{◌↔◌, IfSome, IsTrue, length};
+ghost use Rattle.std.specs.Prelude.{◌↔◌, IsTrue, Some, length};
 ghost use Rattle.claxon_c.specs.NextBlock.{
   BlockIsKept,
   CBlockElseIoError,
@@ -29,7 +29,7 @@ use crate::planar::put_planar;
 use crate::status::{BUFFER_TOO_SMALL, NO_MORE, OK, report};
 use claxon::Block;
 use claxon::frame::BlockInfo;
-use claxon_seek::{header_at_start, rest_at_start};
+use claxon_seek::{BlockMemory, header_at_start, rest_at_start};
 use std::alloc::Global;
 
 /// The properties of a block.
@@ -182,12 +182,13 @@ fn next_block(
         Err(fault) => return Err(report(&fault, error)),
     };
     let said = header.info();
-    if has_larger(&Some(said), capacity) {
+    if has_larger(&said, capacity) {
         *block = ClaxonBlock::from_header(&said);
         return Err(BUFFER_TOO_SMALL);
     }
     let mut count = 0;
-    match rest_at_start(alloc, rest, known, header, &mut count) {
+    let mut memory = BlockMemory::new(alloc);
+    match rest_at_start(&mut memory, rest, known, header, &mut count) {
         Ok(found) => {
             *block = ClaxonBlock::from_header(&said);
             *at = start + count;
@@ -197,12 +198,9 @@ fn next_block(
     }
 }
 
-// Whether the header's block has more samples than this capacity.
-pub(crate) fn has_larger(header: &Option<BlockInfo>, capacity: usize) -> bool
-    ensures { IsTrue result ↔ HasLarger capacity header.now }
+// Whether the block has more samples than this capacity.
+pub(crate) fn has_larger(info: &BlockInfo, capacity: usize) -> bool
+    ensures { IsTrue result ↔ HasLarger capacity (Some info.now) }
 {
-    match header {
-        Some(info) => info.channels as usize * info.duration as usize > capacity,
-        None => false,
-    }
+    info.channels as usize * info.duration as usize > capacity
 }

@@ -13,6 +13,7 @@ ghost use Rattle.claxon_c.specs.Seek.{
   CSeekBlockIsTooLarge,
   CSeekIsComplete,
   CSeekIsSound,
+  CSeekNoMoreFitsBudget,
   CSeekNoMoreIsNone,
   CSeekNoneIsNoMore,
   CSeekOutOfMemoryAfterHeader,
@@ -32,11 +33,11 @@ use crate::heads::ClaxonInfo;
 use crate::interleave::put_interleaved;
 use crate::next_block::{ClaxonBlock, has_larger};
 use crate::status::{BUFFER_TOO_SMALL, NO_MORE, OK, OUT_OF_MEMORY, OVER_BUDGET};
-use claxon_seek::{BlockSearch, FoundBlock, Search, find_frame, seek, seek_block};
+use claxon_seek::{BlockMemory, BlockSearch, FoundBlock, Search, find_frame, seek, seek_block};
 use std::alloc::Global;
 
 /// Finds the first frame of the stream from the position on, and moves the position to it. Where there is none, it is moved to
-/// where more bytes can make one.
+/// where a search goes on: before it none begins, whatever follows.
 #[unsafe(no_mangle)]
 pub extern "C" fn claxon_find_frame(
     alloc: Global,
@@ -65,7 +66,8 @@ pub extern "C" fn claxon_find_frame(
     ensures search_is_kept { SearchIsKept result at.old at.new budget.old budget.new }
 {
     let mut left = *budget;
-    let Ok(found) = find_frame(alloc, bytes, *at, info.known_stream(), &mut left) else {
+    let mut memory = BlockMemory::new(alloc);
+    let Ok(found) = find_frame(&mut memory, bytes, *at, info.known_stream(), &mut left) else {
         return OUT_OF_MEMORY;
     };
     *budget = left;
@@ -103,12 +105,14 @@ pub extern "C" fn claxon_seek(
     ensures none_is_no_more { CSeekNoneIsNoMore info.now bytes.now sample result }
     ensures is_search_status { IsSearchStatus result }
     ensures stops_over_budget { CSeekStopsOverBudget info.now bytes.now sample result budget }
+    ensures no_more_fits_budget { CSeekNoMoreFitsBudget info.now bytes.now sample result budget }
     ensures out_of_memory_after_header { CSeekOutOfMemoryAfterHeader info.now bytes.now sample
         result }
     ensures is_kept { SeekIsKept result at.old at.new block.old block.new }
 {
     let known = info.known_stream();
-    match seek(alloc, bytes, known, info.first_frame, sample, budget) {
+    let mut memory = BlockMemory::new(alloc);
+    match seek(&mut memory, bytes, known, info.first_frame, sample, budget) {
         Ok(Search::Found(found)) => {
             *at = found.position;
             *block = ClaxonBlock::from_header(&found.block);
@@ -144,14 +148,16 @@ pub extern "C" fn claxon_seek_block(
     ensures is_seek_block_status { IsSeekBlockStatus result }
     // The budget, and memory.
     ensures stops_over_budget { CSeekStopsOverBudget info.now bytes.now sample result budget }
+    ensures no_more_fits_budget { CSeekNoMoreFitsBudget info.now bytes.now sample result budget }
     ensures out_of_memory_after_header { CSeekOutOfMemoryAfterHeader info.now bytes.now sample
         result }
     // What stays as it was.
     ensures is_kept { SeekBlockIsKept result at.old at.new block.old block.new
         samples.old samples.new }
 {
+    let mut memory = BlockMemory::new(alloc);
     match seek_block(
-        alloc,
+        &mut memory,
         bytes,
         info.known_stream(),
         info.first_frame,
@@ -178,7 +184,7 @@ fn give(found: FoundBlock, at: &mut usize, samples: &mut [i32], block: &mut Clax
         block: decoded,
     } = found;
     *block = ClaxonBlock::from_header(&frame.block);
-    if has_larger(&Some(frame.block), samples.len()) {
+    if has_larger(&frame.block, samples.len()) {
         *at = frame.position;
         return BUFFER_TOO_SMALL;
     }

@@ -1,5 +1,5 @@
 //! What calls return: a status, and a text for an error.
-ghost use Rattle.claxon_c.specs.Status.{ErrorIsReported, TextIsPut};
+ghost use Rattle.claxon_c.specs.Status.{ErrorIsReported, TextIsPut, status_text};
 
 use claxon::Error;
 
@@ -18,6 +18,27 @@ pub(crate) const NO_MORE: u32 = 5;
 pub(crate) const BUFFER_TOO_SMALL: u32 = 6;
 
 pub(crate) const OVER_BUDGET: u32 = 7;
+
+/// Writes what a status means, of `claxon_stream.h` too.
+#[unsafe(no_mangle)]
+pub extern "C" fn claxon_status_text(status: u32, text: &mut [u8])
+    ensures is_put { TextIsPut (status_text status) text.old text.new }
+{
+    let meaning = match status {
+        0 => "ok",
+        1 => "the stream is ill-formed",
+        2 => "the stream has something that isn't supported",
+        3 => "the bytes end too early",
+        4 => "out of memory",
+        5 => "there is no more",
+        6 => "the samples don't fit",
+        7 => "the search stopped at its budget",
+        100 => "more bytes are needed",
+        101 => "reading or seeking failed",
+        _ => "unknown status",
+    };
+    put_text(meaning, text);
+}
 
 // Writes as much of the text as fits, and a zero byte after it.
 pub(crate) fn put_text(text: &str, output: &mut [u8])

@@ -12,6 +12,7 @@ ghost use Rattle.claxon_c.specs.NextTag.{
   CTagsAreInOrder,
   TagIsKept,
 };
+ghost use Rattle.claxon_c.specs.TagName.{CTagHasName};
 ghost use Rattle.claxon_c.specs.TagReader.{
   EntriesStartIsRead,
   EntryEndIsRead,
@@ -77,6 +78,22 @@ pub extern "C" fn claxon_next_tag(
         }
         Ok(None) => NO_MORE,
         Err(fault) => report(&fault, error),
+    }
+}
+
+/// Whether a tag has this name in the content, in upper or lower case: 1 if it has, else 0.
+#[unsafe(no_mangle)]
+pub extern "C" fn claxon_tag_has_name(content: &[u8], tag: &ClaxonTag, name: &[u8]) -> u32
+    ensures has_name { CTagHasName content.now tag.now name.now result }
+{
+    let (at, count) = (tag.name_at, tag.name_length);
+    if at > content.len() || count > content.len() - at {
+        return 0;
+    }
+    if content[at..at + count].eq_ignore_ascii_case(name) {
+        1
+    } else {
+        0
     }
 }
 

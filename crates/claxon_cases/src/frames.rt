@@ -1,5 +1,6 @@
 //! Frames: the bytes consumed, and the blocks.
-ghost use Rattle.std.specs.Prelude.{◌≡◌};
+ghost use Rattle.std.specs.Prelude.{◌≡◌, IfSome};
+ghost use Rattle.claxon.specs.ShownHead.{HasBitDepth};
 
 use crate::answers::AnswerText;
 use crate::replay::Case;
@@ -8,11 +9,18 @@ use claxon::Block;
 use claxon::frame::{FrameReader, FrameResult};
 use claxon::metadata::StreamInfo;
 use claxon_command_line::result_text::ResultText;
+use claxon_stream::{Event, FrameDecoder};
 use std::alloc::Global;
 use std::io::Cursor;
 
 // The value and number of the old samples in used buffers.
 const USED_BUFFERS: [(i32, usize); 4] = [(13, 1), (13, 16384), (17, 1), (17, 16384)];
+
+// How many bytes are handed in at once.
+const PIECES: [usize; 3] = [1, 7, 1 << 20];
+
+// More bytes than a line has.
+const MAX_BYTES: usize = 1 << 30;
 
 // The marker and a streaminfo of one channel of 8 bits, in blocks of 16 samples.
 const HEAD: [u8; 42] = [
@@ -23,7 +31,8 @@ const HEAD: [u8; 42] = [
 
 /// Adds the result of each of `calls` calls, with ` | ` between them: `BYTES block TIME CHANNELS DURATION samples..`,
 /// `BYTES end`, `BYTES text`, or `IO`, after which all bytes are consumed. Then follow different results into buffers with old
-/// samples, one and more than a block has, and the calls over a stream of these frames that disagree.
+/// samples, one and more than a block has, the calls over a stream of these frames that disagree, and different results where the
+/// bytes are handed in in pieces.
 pub fn answer_of_frames(alloc: Global, case: &Case, calls: usize, answer: &mut ResultText) {
     let one = answers_into(alloc, case, calls, (0, 0));
     answer.bytes(one.as_bytes());
@@ -32,6 +41,10 @@ pub fn answer_of_frames(alloc: Global, case: &Case, calls: usize, answer: &mut R
         answer.difference(&one, &other, "; into a used buffer: ");
     }
     add_as_a_stream(alloc, &case.bytes, answer);
+    for size in PIECES {
+        let other = answers_in_pieces(alloc, case, calls, size);
+        answer.difference(&one, &other, "; in pieces: ");
+    }
 }
 
 // The frames after a head.
@@ -128,6 +141,80 @@ fn are_all(samples: &[i32], value: i32) -> bool {
         all = all && *sample == value;
     }
     all
+}
+
+// The results where the bytes are handed in in pieces of this size.
+fn answers_in_pieces(alloc: Global, case: &Case, calls: usize, size: usize) -> ResultText {
+    let mut answer = ResultText::new(alloc);
+    let Some(known) = known_stream(case) else {
+        answer.text("no case");
+        return answer;
+    };
+    let all = case.bytes.len() as u64;
+    let mut frames = FrameDecoder::new(0);
+    let mut held = 0;
+    for call in 0..calls {
+        if call > 0 {
+            answer.text(" | ");
+        }
+        let event = next_event(alloc, &mut frames, &case.bytes, &mut held, size, known);
+        add_event(event, frames.position(), all, &mut answer);
+    }
+    answer
+}
+
+// What is known of the stream; None if no stream has such samples or blocks.
+fn known_stream(case: &Case) -> Option<Option<StreamInfo>>
+    ensures { IfSome result (λ known. IfSome known (λ info. HasBitDepth info)) }
+{
+    match (case.number, u16::try_from(case.length)) {
+        (0, Ok(0)) => Some(None),
+        (1..=32, Ok(length)) => Some(Some(stream_info(case.number, length))),
+        _ => None,
+    }
+}
+
+// The next answer but `ReadOn`, for which more pieces are handed in; None if memory is refused.
+fn next_event(
+    alloc: Global,
+    frames: &mut FrameDecoder,
+    bytes: &[u8],
+    held: &mut usize,
+    size: usize,
+    known: Option<StreamInfo>,
+) -> Option<Event>
+    requires { IfSome known (λ info. HasBitDepth info) }
+{
+    if bytes.len() >= MAX_BYTES {
+        return None;
+    }
+    for _ in 0..bytes.len() + 2 {
+        let count = (*held).min(bytes.len());
+        let is_end = count == bytes.len();
+        let front = &bytes[..count];
+        match frames.decode_next(Vec::new(alloc), front, 0, is_end, known) {
+            Ok(Event::ReadOn(_)) => *held = (*held).saturating_add(size),
+            Ok(event) => return Some(event),
+            Err(_) => return None,
+        }
+    }
+    None
+}
+
+fn add_event(event: Option<Event>, taken: u64, all: u64, answer: &mut ResultText) {
+    match event {
+        Some(Event::Decoded(frame)) => {
+            answer.value(&taken);
+            add_block(frame.block, answer);
+        }
+        Some(Event::End) => {
+            answer.value(&taken);
+            answer.text(" end");
+        }
+        Some(Event::Faulty(fault)) => answer.fault_after(taken, all, &fault.error),
+        Some(Event::Cut(_)) => answer.text("IO"),
+        _ => answer.text("no event"),
+    }
 }
 
 // A stream with this bit depth, in blocks of 16 to `length` samples.

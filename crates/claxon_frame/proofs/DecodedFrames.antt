@@ -32,7 +32,7 @@ info_at_start stream start {a = a} {b = b} h k = record {
         known = x.known;
         is = (b.remaining, ap (λ r. bind r (λ start. done (info_of_start start))) q.1);
         rest = x.rest;
-        crcs = x.crcs;
+        values = x.values;
       };
 }
 

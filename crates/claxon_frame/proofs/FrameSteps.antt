@@ -13,8 +13,8 @@ use Rattle.claxon_format.proofs.Laws.{taken_is}
 use Rattle.claxon_input.specs.declared.error.Error.{Error}
 use Rattle.claxon_input.specs.declared.error.Error.TheVariants.{IoError, FormatError, Unsupported, OutOfMemory}
 use Rattle.claxon_input.specs.CrcUpdate.{update_crc16}
-use Rattle.claxon_input.specs.Source.{IsKnown, Source, with_crc}
-use Rattle.claxon_input.specs.State.{State, crcs_at_eof, remaining_as}
+use Rattle.claxon_input.specs.Source.{IsKnown, Source, with_value}
+use Rattle.claxon_input.specs.State.{State, values_at_eof, remaining_as}
 use Rattle.claxon_input.specs.Gives.{Consumes, Stops, IsRest, or_eof, GivesOrEofOrOutOfMemory, GivesOrOutOfMemory}
 use Rattle.claxon_input.proofs.RunningReaders.{source_crc_of_taken}
 use Rattle.claxon_input.proofs.CrcUpdate.{determines_crc16, update_crc-taken}
@@ -35,7 +35,7 @@ use Rattle.claxon_input.proofs.FieldOrEof.{after_first, enough, found, some_ok, 
 
 -- the bytes of a source with a CRC-16
 abbrev pub bytes_with_crc16 : ℕ → Source ℕ → State ℕ
-bytes_with_crc16 crc s = bytes_of_source (with_crc (update_crc16 crc) s)
+bytes_with_crc16 crc s = bytes_of_source (with_value (update_crc16 crc) s)
 
 pub started_consumes : (stream : Option StreamFormat) (start : Start) (first last crc : ℕ) (s t : Source ℕ) → first ≡ 0 → crc ≡ last → crc < 65536 → Consumes (bytes_with_crc16 first s) (bytes_with_crc16 last t) (λ s m. or_eof 2 (start_at stream) s ≡ Done (Some start) m)
     → Consumes (bytes_with_crc16 first s) (bytes_with_crc16 last t) (λ s m. or_eof 2 (started_at stream) s ≡ Done (Some (record { start = start; crc = crc })) m)
@@ -55,7 +55,7 @@ abbrev bytes_of_all : Option (List ℕ) → List ℕ
 bytes_of_all = remaining_as (λ all. all)
 
 crc_is_updated : (p q : Option (List ℕ)) (c crc : ℕ) (u v : List ℕ → List ℕ) → c < 65536 → crc < 65536 → IsKnown p → IsKnown q → IsRest (bytes_of_all p) (bytes_of_all q)
-    → crcs_at_eof q (λ xs. update_crc16 crc xs ∷ v xs) ≡ crcs_at_eof p (λ xs. update_crc16 c xs ∷ u xs) → crc ≡ update_crc16 c (taken (bytes_of_all p) (bytes_of_all q))
+    → values_at_eof q (λ xs. update_crc16 crc xs ∷ v xs) ≡ values_at_eof p (λ xs. update_crc16 c xs ∷ u xs) → crc ≡ update_crc16 c (taken (bytes_of_all p) (bytes_of_all q))
 unfolding IsRest
 crc_is_updated None q c crc u v low small t k r e = absurd t
 crc_is_updated (Some all) None c crc u v low small t k r e = absurd k
@@ -69,7 +69,7 @@ crc_of_rest : (c crc : ℕ) (s t : Source ℕ) {P : List ℕ → List ℕ → Ty
 unfolding IsRest
 crc_of_rest c crc s t low small h known =
     let k = h.known known in
-    crc_is_updated s.remaining t.remaining c crc s.crcs t.crcs low small known k.known (k.rest (bytes_of_all s.remaining) ([], refl)) k.crcs
+    crc_is_updated s.remaining t.remaining c crc s.values t.values low small known k.known (k.rest (bytes_of_all s.remaining) ([], refl)) k.values
 
 module _ (started : Started) where
   -- the reader of the subframes

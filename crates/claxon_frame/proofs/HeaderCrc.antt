@@ -8,7 +8,7 @@ use Rattle.claxon_format.specs.Header.{Fields}
 use Rattle.claxon_format.specs.read.Reading.{Done, and_then, done, taken}
 use Rattle.claxon_format.proofs.CrcBytes.{with_crc_after}
 use Rattle.claxon_input.specs.CrcUpdate.{update_crc8}
-use Rattle.claxon_input.specs.Source.{Source, with_crc}
+use Rattle.claxon_input.specs.Source.{Source, with_value}
 use Rattle.claxon_input.specs.State.{State}
 use Rattle.claxon_input.specs.Gives.{Consumes, or_eof}
 use Rattle.claxon_input.proofs.RunningReaders.{source_crc_of_taken}
@@ -19,7 +19,7 @@ use Rattle.claxon_input.proofs.FieldOrEof.{enough, found, some_read}
 
 -- the bytes of a source with this CRC-8
 abbrev pub bytes_with_crc8 : Source ℕ → ℕ → State ℕ
-bytes_with_crc8 source c = bytes_of_source (with_crc (update_crc8 c) source)
+bytes_with_crc8 source c = bytes_of_source (with_value (update_crc8 c) source)
 
 -- it is compared with the CRC of the fields
 pub header_crc_next : (u v : Source ℕ) (c d n : ℕ) (f : Fields) → c ≡ 0 → n ≡ d → n < 256 → Consumes (bytes_with_crc8 u c) (bytes_with_crc8 v d) (λ s m. or_eof 2 (fields_at big_at) s ≡ Done (Some f) m)
@@ -38,6 +38,6 @@ header_crc_next u v c d n f zero same small h = record {
         known = k.known;
         is = enough 2 fields_with_crc_at (bytes_with_crc8 u c).remaining r.0 ∙ ap found (with_crc_after 1 n crc8 HeaderCrc (fields_at big_at) f (bytes_with_crc8 u c).remaining (bytes_with_crc8 v d).remaining r.1 crc);
         rest = k.rest;
-        crcs = k.crcs;
+        values = k.values;
       };
 }

@@ -60,7 +60,7 @@ module _ (s t : Source ℕ) (j k : GName) (left : Bits) (few : length left < 8) 
     errors = h.errors;
     empty_reads = h.empty_reads;
     loans = (let e : k ∷ t.loans ≡ j ∷ s.loans = h.loans in cc);
-    known = λ e. let x = h.known e in record { known = x.known; is = both_known P Q left s.remaining t.remaining f e x.known x.rest x.is; rest = x.rest; crcs = x.crcs };
+    known = λ e. let x = h.known e in record { known = x.known; is = both_known P Q left s.remaining t.remaining f e x.known x.rest x.is; rest = x.rest; values = x.values };
   }
 
   failure_or_aligned : (P : Bits → Type 0) (Q : List ℕ → Type 0) → ((z : List ℕ) → P (bits_of z) → Q z)

@@ -12,7 +12,7 @@ use Rattle.claxon_input.specs.Error.{is_io}
 
 -- nothing was consumed
 pub consumes_none : {X : Type 0} (a : State X) (P : List X → List X → Type 0) → P a.remaining a.remaining → Consumes a a P
-consumes_none a P h = record { errors = refl; empty_reads = refl; loans = refl; known = λ t. record { known = t; is = h; rest = λ z k. k; crcs = refl } }
+consumes_none a P h = record { errors = refl; empty_reads = refl; loans = refl; known = λ t. record { known = t; is = h; rest = λ z k. k; values = refl } }
 
 -- one after another
 pub consumes_then : {X : Type 0} {a b c : State X} {P Q : List X → List X → Type 0} (T : List X → List X → Type 0) → Consumes a b P → Consumes b c Q → (P a.remaining b.remaining → Q b.remaining c.remaining → T a.remaining c.remaining) → Consumes a c T
@@ -20,15 +20,15 @@ consumes_then T h k f = record {
   errors = k.errors ∙ h.errors;
   empty_reads = k.empty_reads ∙ h.empty_reads;
   loans = k.loans ∙ h.loans;
-  known = λ t. let x = h.known t in let y = k.known x.known in record { known = y.known; is = f x.is y.is; rest = λ z e. y.rest z (x.rest z e); crcs = y.crcs ∙ x.crcs };
+  known = λ t. let x = h.known t in let y = k.known x.known in record { known = y.known; is = f x.is y.is; rest = λ z e. y.rest z (x.rest z e); values = y.values ∙ x.values };
 }
 
 pub consumes_map : {X : Type 0} {a b : State X} {P : List X → List X → Type 0} (T : List X → List X → Type 0) → Consumes a b P → (P a.remaining b.remaining → T a.remaining b.remaining) → Consumes a b T
-consumes_map T h f = record { errors = h.errors; empty_reads = h.empty_reads; loans = h.loans; known = λ t. let x = h.known t in record { known = x.known; is = f x.is; rest = x.rest; crcs = x.crcs } }
+consumes_map T h f = record { errors = h.errors; empty_reads = h.empty_reads; loans = h.loans; known = λ t. let x = h.known t in record { known = x.known; is = f x.is; rest = x.rest; values = x.values } }
 
 -- the same, where it is known what remains
 pub consumes_known : {X : Type 0} {a b : State X} {P : List X → List X → Type 0} (T : List X → List X → Type 0) → Consumes a b P → (RemainingIsKnown a → P a.remaining b.remaining → T a.remaining b.remaining) → Consumes a b T
-consumes_known T h f = record { errors = h.errors; empty_reads = h.empty_reads; loans = h.loans; known = λ t. let x = h.known t in record { known = x.known; is = f t x.is; rest = x.rest; crcs = x.crcs } }
+consumes_known T h f = record { errors = h.errors; empty_reads = h.empty_reads; loans = h.loans; known = λ t. let x = h.known t in record { known = x.known; is = f t x.is; rest = x.rest; values = x.values } }
 
 pub failure_or_known : {X : Type 0} {a b : State X} {Q : List X → Type 0} (T : List X → Type 0) → ReadFailedOrRemaining a b Q → (RemainingIsKnown a → Q a.remaining → T a.remaining) → ReadFailedOrRemaining a b T
 failure_or_known T h f = record { loans = h.loans; known = λ t. let x = h.known t in record { known = x.known; why = elim x.why [ inl q ↦ inl (f t q) | inr q ↦ inr q ]; rest = x.rest } }

@@ -144,16 +144,16 @@ continues_16 s xs = continues 16 0x18005 (omega arith) (omega arith) (omega arit
 
 -- ---- the CRC after all that remains determines that of what was consumed
 
--- the CRCs after all that remains, where the outermost is c
-abbrev pub crcs_past_all : (List ℕ → ℕ) → List ℕ → (List ℕ → List ℕ) → List ℕ → List ℕ
-crcs_past_all update_crc left others more = update_crc (left ++ more) ∷ others (left ++ more)
+-- the kept values after all that remains, the outermost of which is a CRC
+abbrev pub values_past_all : (List ℕ → ℕ) → List ℕ → (List ℕ → List ℕ) → List ℕ → List ℕ
+values_past_all update_crc left others more = update_crc (left ++ more) ∷ others (left ++ more)
 
-outermost_is : (f g : List ℕ → ℕ) (a b : List ℕ) (u v : List ℕ → List ℕ) → crcs_past_all g b v ≡ crcs_past_all f a u → g (b ++ []) ≡ f (a ++ [])
-outermost_is f g a b u v e = let k : crcs_past_all g b v [] ≡ crcs_past_all f a u [] = ap (λ (h : List ℕ → List ℕ). h []) e in cc
+outermost_is : (f g : List ℕ → ℕ) (a b : List ℕ) (u v : List ℕ → List ℕ) → values_past_all g b v ≡ values_past_all f a u → g (b ++ []) ≡ f (a ++ [])
+outermost_is f g a b u v e = let k : values_past_all g b v [] ≡ values_past_all f a u [] = ap (λ (h : List ℕ → List ℕ). h []) e in cc
 
 -- the CRCs after all that remains determine the CRC of d bits of what was consumed
 pub record DeterminesCrc (d : ℕ) (update_crc : ℕ → List ℕ → ℕ) (crc : Bits → ℕ) : Type 0 where
-  pub determines : (all rest : List ℕ) (x : Bits) (c : ℕ) (u v : List ℕ → List ℕ) → c < 2 ^ d → bits_of all ≡ x ++ bits_of rest → crcs_past_all (update_crc c) rest v ≡ crcs_past_all (update_crc 0) all u → c ≡ crc x
+  pub determines : (all rest : List ℕ) (x : Bits) (c : ℕ) (u v : List ℕ → List ℕ) → c < 2 ^ d → bits_of all ≡ x ++ bits_of rest → values_past_all (update_crc c) rest v ≡ values_past_all (update_crc 0) all u → c ≡ crc x
 
 determines_crc : (d p : ℕ) → 2 ≤ 2 ^ d → 2 ^ d ≤ p → p < 2 * 2 ^ d → p % 2 ≡ 1 → 8 ≤ d → DeterminesCrc d (update_crc d p) (λ x. divide d p 0 (x ++ replicate d false))
 determines_crc d p some low high odd eight = record {

@@ -120,15 +120,6 @@ first_stops k first whole {a = a} w h = stops_after (consumes_none a (λ s m. or
 
 -- ---- calls that allocate memory
 
--- out of memory, or what a call gives that allocates none
-pub out_of_memory_or_gives_or_eof : {X A Y : Type 0} (k : ℕ) (view : A → Y) (r : Result (Option A) Error) (read : List X → Reading X Y) (a b : State X) → GivesOrEofOrOutOfMemory k view r read a b → ((r ≡ Err OutOfMemory) × OutOfMemoryLeavesRest a b) ⊎ GivesOrEof k view r read a b
-out_of_memory_or_gives_or_eof k view (Ok (Some x)) read a b h = inr h
-out_of_memory_or_gives_or_eof k view (Ok None) read a b h = inr h
-out_of_memory_or_gives_or_eof k view (Err (IoError cause)) read a b h = inr h
-out_of_memory_or_gives_or_eof k view (Err (FormatError text)) read a b h = inr h
-out_of_memory_or_gives_or_eof k view (Err (Unsupported text)) read a b h = inr h
-out_of_memory_or_gives_or_eof k view (Err OutOfMemory) read a b h = inl (refl, h)
-
 -- a call that allocates no memory is never out of memory
 pub never_out_of_memory_or_eof : {X A Y : Type 0} (k : ℕ) (view : A → Y) (r : Result (Option A) Error) (read : List X → Reading X Y) (a b : State X) → GivesOrEof k view r read a b → GivesOrEofOrOutOfMemory k view r read a b
 never_out_of_memory_or_eof k view (Ok (Some x)) read a b h = h
@@ -141,7 +132,3 @@ never_out_of_memory_or_eof k view (Err OutOfMemory) read a b h = let n = h.named
 -- an exit with any error but `OutOfMemory`
 pub exit_no_memory_or_eof : {X A Y : Type 0} (k : ℕ) (view : A → Y) (read : List X → Reading X Y) {a c : State X} {r : Result (Option A) Error} {e : Error} → (y : Error) × (r ≡ Err y) × (y ≡ e) → Stops e (or_eof k read) a c → GivesOrEofOrOutOfMemory k view r read a c
 exit_no_memory_or_eof k view read {a = a} {c = c} {r = r} p h = never_out_of_memory_or_eof k view r read a c (exit_or_eof k view read p h)
-
--- and with that one
-pub exit_out_of_memory_or_eof : {X A Y : Type 0} (k : ℕ) (view : A → Y) (read : List X → Reading X Y) {a c : State X} {r : Result (Option A) Error} → (y : Error) × (r ≡ Err y) × (y ≡ OutOfMemory) → OutOfMemoryLeavesRest a c → GivesOrEofOrOutOfMemory k view r read a c
-exit_out_of_memory_or_eof k view read p h = rw (p.1, p.2) h

@@ -15,7 +15,7 @@ use Rattle.claxon_format.proofs.Numbers.{Reads-number}
 use Rattle.claxon_format.proofs.RiceCodes.{Reads-unary, zeros_no_fault}
 use Rattle.claxon_input.specs.Source.{Source, TakesFront, IsKnown, Takes, ReadFailedOrEof, ReadFailedOnce, SourceReadFailed, MovesPastSome, HasMore, MeetsEof}
 use Rattle.claxon_input.specs.Bitstream.{BitState, remaining_bits, TakesBits, TakesNumber, BitsFailureOrEof, HasNoOneBit, FailureOrNoOneBit}
-use Rattle.claxon_input.specs.State.{State, state_of, bits_after, crcs_at_eof, remaining_as}
+use Rattle.claxon_input.specs.State.{State, state_of, bits_after, values_at_eof, remaining_as}
 use Rattle.claxon_input.specs.Gives.{IsRest, Consumes, ReadFailedOrRemaining, ReadFailedIn, GivesIo, ReachedEof}
 
 -- functions that agree are one
@@ -36,14 +36,14 @@ record KnownAfter {X : Type 0} (f g : List ℕ → List X) (a b : Source ℕ) (p
   known : IsKnown q
   is : P (remaining_as f p) (remaining_as g q)
   rest : (z : List ℕ) → IsRest z (remaining_as (λ all. all) p) → IsRest z (remaining_as (λ all. all) q)
-  crcs : crcs_at_eof q b.crcs ≡ crcs_at_eof p a.crcs
+  values : values_at_eof q b.values ≡ values_at_eof p a.values
 
--- the CRCs after all that remains are the same
-past_same : (a b : Source ℕ) (bytes all rest : List ℕ) → all ≡ bytes ++ rest → ((more : List ℕ) → b.crcs more ≡ a.crcs (bytes ++ more)) → crcs_at_eof (Some rest) b.crcs ≡ crcs_at_eof (Some all) a.crcs
-past_same a b bytes all rest l c = same_function (λ more. c (rest ++ more) ∙ ap a.crcs (sym (append_assoc bytes rest more) ∙ ap (λ (x : List ℕ). x ++ more) (sym l)))
+-- the kept values after all that remains are the same
+past_same : (a b : Source ℕ) (bytes all rest : List ℕ) → all ≡ bytes ++ rest → ((more : List ℕ) → b.values more ≡ a.values (bytes ++ more)) → values_at_eof (Some rest) b.values ≡ values_at_eof (Some all) a.values
+past_same a b bytes all rest l c = same_function (λ more. c (rest ++ more) ∙ ap a.values (sym (append_assoc bytes rest more) ∙ ap (λ (x : List ℕ). x ++ more) (sym l)))
 
 is_known_after : {X : Type 0} (f g : List ℕ → List X) (a b : Source ℕ) (p q : Option (List ℕ)) (bytes : List ℕ) (xs : List X) (P : List X → List X → Type 0) → TakesFront p q bytes → SplitsOff f g bytes xs
-    → (IsKnown p → (more : List ℕ) → b.crcs more ≡ a.crcs (bytes ++ more)) → ((m : List X) → P (xs ++ m) m) → IsKnown p → KnownAfter f g a b p q P
+    → (IsKnown p → (more : List ℕ) → b.values more ≡ a.values (bytes ++ more)) → ((m : List X) → P (xs ++ m) m) → IsKnown p → KnownAfter f g a b p q P
 is_known_after f g a b None q bytes xs P l e c h t = absurd t
 is_known_after f g a b (Some all) None bytes xs P l e c h t = absurd l
 is_known_after f g a b (Some all) (Some rest) bytes xs P l e c h t =
@@ -52,7 +52,7 @@ is_known_after f g a b (Some all) (Some rest) bytes xs P l e c h t =
       known = tt;
       is = subst (λ (s : List _). P s (g rest)) (sym k) (h (g rest));
       rest = λ z. is_rest_after z all bytes rest l;
-      crcs = past_same a b bytes all rest l (c tt);
+      values = past_same a b bytes all rest l (c tt);
     }
 
 consumes_by : {X : Type 0} (f g : List ℕ → List X) {a b : Source ℕ} {bytes : List ℕ} (xs : List X) (P : List X → List X → Type 0) → Takes a b bytes → SplitsOff f g bytes xs → ((m : List X) → P (xs ++ m) m) → Consumes (state_of f a) (state_of g b) P
@@ -60,7 +60,7 @@ consumes_by f g {a = a} {b = b} {bytes = bytes} xs P h e k = record {
   errors = h.errors;
   empty_reads = h.empty_reads;
   loans = h.moved.loans;
-  known = λ t. let w = is_known_after f g a b a.remaining b.remaining bytes xs P h.moved.front e h.moved.crcs k t in record { known = w.known; is = w.is; rest = w.rest; crcs = w.crcs };
+  known = λ t. let w = is_known_after f g a b a.remaining b.remaining bytes xs P h.moved.front e h.moved.values k t in record { known = w.known; is = w.is; rest = w.rest; values = w.values };
 }
 
 splits_off_bits : (old new : Bits) (bytes : List ℕ) (bs : Bits) → old ++ bits_of bytes ≡ bs ++ new → SplitsOff (bits_after old) (bits_after new) bytes bs
@@ -84,7 +84,7 @@ consumes_bytes {xs = xs} P h k = consumes_by (λ all. all) (λ all. all) xs P h 
 
 -- ---- the end of input
 
-all_taken : (a b : Source ℕ) (p q : Option (List ℕ)) (moved : List ℕ) (k : ℕ) → TakesFront p q moved → (IsKnown p → (more : List ℕ) → b.crcs more ≡ a.crcs (moved ++ more))
+all_taken : (a b : Source ℕ) (p q : Option (List ℕ)) (moved : List ℕ) (k : ℕ) → TakesFront p q moved → (IsKnown p → (more : List ℕ) → b.values more ≡ a.values (moved ++ more))
     → IfSome p (λ all. (length all < k) × (q ≡ Some [])) → IsKnown p → KnownAfter (λ all. all) (λ all. all) a b p q (λ s m. (ltb (length s) k ≡ true) × (m ≡ []))
 all_taken a b None q moved k l c h t = absurd t
 all_taken a b (Some all) None moved k l c h t = absurd l
@@ -92,7 +92,7 @@ all_taken a b (Some all) (Some left) moved k l c h t = record {
   known = tt;
   is = (lt-ltb _ _ h.0, ap (remaining_as (λ all. all)) h.1);
   rest = λ z. is_rest_after z all moved left l;
-  crcs = past_same a b moved all left l (c tt);
+  values = past_same a b moved all left l (c tt);
 }
 
 -- fewer than k remained, and all were consumed
@@ -100,7 +100,7 @@ pub reached_eof_bytes : {a b : Source ℕ} (k : ℕ) → MeetsEof a b k → Reac
 reached_eof_bytes {a} {b} k h = record {
   errors = h.errors;
   loans = h.taken.loans;
-  known = λ t. let w = all_taken a b a.remaining b.remaining h.moved k h.taken.front h.taken.crcs h.cause t in record { known = w.known; is = w.is; rest = w.rest; crcs = w.crcs };
+  known = λ t. let w = all_taken a b a.remaining b.remaining h.moved k h.taken.front h.taken.values h.cause t in record { known = w.known; is = w.is; rest = w.rest; values = w.values };
 }
 
 -- ---- an Err

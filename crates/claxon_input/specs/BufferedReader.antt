@@ -18,7 +18,7 @@ buffered_source remaining r = record {
   errors = errors_of r.inner;
   empty_reads = empty_reads_of r.inner;
   loans = [];
-  crcs = λ _. [];
+  values = λ _. [];
 }
 
 -- the wrapped reader
@@ -61,7 +61,7 @@ NothingWasRead remaining inner result =
       errors = 0;
       empty_reads = 0;
       loans = [];
-      crcs = λ _. [];
+      values = λ _. [];
     })
 
 -- After an Err nothing is buffered, so that the next call asks the inner reader again.

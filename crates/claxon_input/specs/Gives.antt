@@ -22,7 +22,7 @@ use Rattle.std.specs.Prelude.{
 }
 use Rattle.claxon_format.specs.read.Reading.{Reading, Done, Faulty, Incomplete, and_then, done}
 use Rattle.claxon_input.specs.Error.{IsFault, is_io, is_named}
-use Rattle.claxon_input.specs.State.{State, RemainingIsKnown, final_crcs, source_bytes}
+use Rattle.claxon_input.specs.State.{State, RemainingIsKnown, final_values, source_bytes}
 use Rattle.claxon_input.specs.declared.error.Error.{Error}
 use Rattle.claxon_input.specs.declared.error.Error.TheVariants.{OutOfMemory}
 
@@ -33,12 +33,12 @@ unfoldable pub IsRest : {X : Type 0} → List X → List X → Type 0
 IsRest {X} s m = (t : List X) × (s ≡ t ++ m)
 
 -- It is still known what remains, and P holds. The bytes in the source are a suffix of those
--- before, and the CRCs at the end of input are the same.
+-- before, and the kept values at the end of input are the same.
 pub record KnownAnd {X : Type 0} (old new : State X) (P : Type 0) : Type 0 where
   pub known : RemainingIsKnown new
   pub is : P
   pub rest : (z : List ℕ) → IsRest z (source_bytes old) → IsRest z (source_bytes new)
-  pub crcs : final_crcs new ≡ final_crcs old
+  pub values : final_values new ≡ final_values old
 
 -- No read of the source failed, and P holds of what remained before and remains after.
 pub record Consumes {X : Type 0} (old new : State X) (P : List X → List X → Type 0) : Type 0 where

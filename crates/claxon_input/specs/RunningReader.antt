@@ -1,6 +1,6 @@
 -- What clauses say of the readers that keep a value of what they read.
 use Rattle.std.specs.Prelude.{ℕ, List}
-use Rattle.claxon_input.specs.Source.{Source, with_crc}
+use Rattle.claxon_input.specs.Source.{Source, with_value}
 use Rattle.claxon_input.specs.declared.running.RunningReader.{RunningReader}
 
 -- the value of what was read so far
@@ -14,4 +14,4 @@ running_inner r = r.inner
 -- the source of the wrapped reader, with the value, which what is consumed updates
 abbrev pub running_source : {R S : Type 0} → (R → Source ℕ) → (S → List ℕ → ℕ) → RunningReader R S
     → Source ℕ
-running_source source update r = with_crc (update (running_value r)) (source (running_inner r))
+running_source source update r = with_value (update (running_value r)) (source (running_inner r))

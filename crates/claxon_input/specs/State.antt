@@ -24,14 +24,14 @@ remaining_as f (Some all) = f all
 abbrev pub source_bytes : {X : Type 0} → State X → List ℕ
 source_bytes s = remaining_as (λ all. all) s.source.remaining
 
--- the CRCs after all that remains and more
-abbrev pub crcs_at_eof : Option (List ℕ) → (List ℕ → List ℕ) → List ℕ → List ℕ
-crcs_at_eof None crcs more = []
-crcs_at_eof (Some all) crcs more = crcs (all ++ more)
+-- the kept values after all that remains and more
+abbrev pub values_at_eof : Option (List ℕ) → (List ℕ → List ℕ) → List ℕ → List ℕ
+values_at_eof None values more = []
+values_at_eof (Some all) values more = values (all ++ more)
 
 -- those of a state
-abbrev pub final_crcs : {X : Type 0} → State X → List ℕ → List ℕ
-final_crcs s = crcs_at_eof s.source.remaining s.source.crcs
+abbrev pub final_values : {X : Type 0} → State X → List ℕ → List ℕ
+final_values s = values_at_eof s.source.remaining s.source.values
 
 -- the state of a source, where f of its bytes remains
 abbrev pub state_of : {X : Type 0} → (List ℕ → List X) → Source ℕ → State X

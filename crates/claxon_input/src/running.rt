@@ -9,7 +9,7 @@ ghost use Rattle.std.specs.Prelude.{
   ◌++◌,
   IfOk,
 };
-ghost use Rattle.claxon_input.specs.Source.{with_crc};
+ghost use Rattle.claxon_input.specs.Source.{with_value};
 ghost use Rattle.claxon_input.specs.ReadBytes.{BytesFailureOrEof, SomeAreSkipped};
 
 use crate::input::ReadBytes;
@@ -53,7 +53,7 @@ impl<R: ReadBytes, S: Running> RunningReader<R, S> {
     /// Wraps the reader. Nothing was read so far.
     pub fn new(inner: R) -> RunningReader<R, S>
         ensures source { running_source R.source S.update result
-            ≡ with_crc (S.update S.start) (R.source inner) }
+            ≡ with_value (S.update S.start) (R.source inner) }
         ensures state { running_value result ≡ S.start }
         ensures inner { running_inner result ≡ inner }
     {
@@ -67,7 +67,7 @@ impl<R: ReadBytes, S: Running> RunningReader<R, S> {
     #[inline(always)]
     pub fn resume(inner: R, value: S) -> RunningReader<R, S>
         ensures source { running_source R.source S.update result
-            ≡ with_crc (S.update value) (R.source inner) }
+            ≡ with_value (S.update value) (R.source inner) }
         ensures value { running_value result ≡ value }
         ensures inner { running_inner result ≡ inner }
     {

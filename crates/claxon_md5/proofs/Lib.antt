@@ -7,3 +7,4 @@ pub mod Rounds
 pub mod Blocks
 pub mod Hashing
 pub mod WholeBytes
+pub mod Planar

@@ -3,3 +3,4 @@ pub mod Sums
 pub mod HasHashed
 pub mod WholeBytes
 pub mod HasherCalls
+pub mod Planar

@@ -7,7 +7,7 @@
 //! Samples are hashed as the MD5 sum of a FLAC stream has them (RFC 9639, section 8.2).
 #![tactic(auto)]
 
-ghost use Rattle.std.specs.Prelude.{◌≡◌, ◌≤◌, [], fold};
+ghost use Rattle.std.specs.Prelude.{◌≡◌, ◌≤◌, ◌%◌, [], fold, length};
 ghost use Rattle.claxon_md5.specs.Md5.{bytes_of_words, length_bytes, process, zero_count};
 
 use block::BLOCK_LEN;
@@ -45,6 +45,7 @@ pub struct Md5 {
 impl Md5 {
     ghost use Rattle.claxon_md5.specs.HasHashed.{HasHashed};
     ghost use Rattle.claxon_md5.specs.HasherCalls.{HashesBytes, HashesSamples, IsDigest};
+    ghost use Rattle.claxon_md5.specs.Planar.{HashesPlanar};
 
     /// A hasher that was given no bytes.
     pub fn new() -> Md5
@@ -98,6 +99,46 @@ impl Md5 {
             let count = packing::pack(&samples[at..end], bit_depth, &mut buffer);
             self.update(&buffer[..count]);
             at = end;
+        }
+    }
+
+    /// Hashes planar samples too, those of one channel after those of another, in the order in which
+    /// they are interleaved. Each is hashed as by `update_samples`.
+    pub fn update_planar(&mut self, samples: &[i32], channels: u32, bit_depth: u32)
+        requires some_channels { 1 ≤ channels }
+        requires few_channels { channels ≤ 8 }
+        requires same_lengths { length samples.now % channels ≡ 0 }
+        requires min_bit_depth { 1 ≤ bit_depth }
+        requires max_bit_depth { bit_depth ≤ 32 }
+        ensures hashes_planar { HashesPlanar channels bit_depth samples.now self.old self.new }
+    {
+        match channels {
+            1 => self.update_channels::<1>(samples, bit_depth),
+            2 => self.update_channels::<2>(samples, bit_depth),
+            3 => self.update_channels::<3>(samples, bit_depth),
+            4 => self.update_channels::<4>(samples, bit_depth),
+            5 => self.update_channels::<5>(samples, bit_depth),
+            6 => self.update_channels::<6>(samples, bit_depth),
+            7 => self.update_channels::<7>(samples, bit_depth),
+            _ => self.update_channels::<8>(samples, bit_depth),
+        }
+    }
+
+    // The same of `CHANNELS` channels: a constant, so that no sample costs a division.
+    fn update_channels<const CHANNELS: usize>(&mut self, samples: &[i32], bit_depth: u32)
+        requires some_channels { 1 ≤ CHANNELS }
+        requires same_lengths { length samples.now % CHANNELS ≡ 0 }
+        requires min_bit_depth { 1 ≤ bit_depth }
+        requires max_bit_depth { bit_depth ≤ 32 }
+        ensures hashes_planar { HashesPlanar CHANNELS bit_depth samples.now self.old self.new }
+    {
+        let mut interleaved = [0; MAX_SAMPLES];
+        let mut from = 0;
+        while from < samples.len() {
+            let count = MAX_SAMPLES.min(samples.len() - from);
+            packing::interleave::<CHANNELS>(samples, from, &mut interleaved[..count]);
+            self.update_samples(&interleaved[..count], bit_depth);
+            from += count;
         }
     }
 

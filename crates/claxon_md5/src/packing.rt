@@ -1,5 +1,6 @@
-//! Samples as bytes (RFC 9639, section 8.2).
-ghost use Rattle.std.specs.Prelude.{◌≡◌, ◌≤◌, length, take};
+//! Samples as bytes (RFC 9639, section 8.2), and in the order in which they are hashed.
+ghost use Rattle.std.specs.Prelude.{◌≡◌, ◌≤◌, ◌+◌, ◌%◌, length, take};
+ghost use Rattle.claxon_md5.specs.Planar.{interleaved_part};
 ghost use Rattle.claxon_md5.specs.WholeBytes.{whole_bytes_of_samples};
 
 /// The most samples that are packed at once.
@@ -23,4 +24,19 @@ pub fn pack(samples: &[i32], bit_depth: u32, buffer: &mut [u8; BUFFER_LEN]) -> u
         at += width;
     }
     at
+}
+
+/// Fills the buffer with the interleaved samples from index `from` on, of samples of `CHANNELS` channels, one channel after
+/// another.
+pub fn interleave<const CHANNELS: usize>(samples: &[i32], from: usize, buffer: &mut [i32])
+    requires some_channels { 1 ≤ CHANNELS }
+    requires same_lengths { length samples.now % CHANNELS ≡ 0 }
+    requires inside { from + length buffer.old ≤ length samples.now }
+    ensures { buffer.new ≡ interleaved_part CHANNELS samples.now from (length buffer.old) }
+{
+    let duration = samples.len() / CHANNELS;
+    for i in 0..buffer.len() {
+        let at = from + i;
+        buffer[i] = samples[at % CHANNELS * duration + at / CHANNELS];
+    }
 }

@@ -138,3 +138,32 @@ fn many_samples(rt: HostRuntime) {
         }
     }
 }
+
+// 1300 samples of each of these channels, one channel after another: sample i of channel ch is
+// 7919i + 104729ch, modulo 65536, less 32768. The digests are those of the interleaved samples.
+#[test]
+fn planar_samples(rt: HostRuntime) {
+    let mut samples = [0; 10_400];
+    for k in 0..10_400 {
+        samples[k] = ((7919 * (k % 1300) + 104_729 * (k / 1300)) % 65536) as i32 - 32768;
+    }
+    let rows = [
+        (1, 0x56d50ced1c16c660eb39e8b0d6938c7a),
+        (2, 0xa8100fd960ee22471233d71f6f1d2e07),
+        (3, 0x15223fa6f809bce0b863e15361a27095),
+        (4, 0x8cbb1a6f7cc1bdb23cafe750bc02c907),
+        (5, 0x498faa5af54fe98051f6b2c6ff5b1c9d),
+        (6, 0x67e31db91afe8256a7213005ade1f96c),
+        (7, 0x11f4ca7fe3b370f95ecdf86fcf11f61b),
+        (8, 0x59f8fb29c15fc5834c195f28212cf3c3),
+    ];
+    for (channels, want) in rows {
+        assert!(rt; 1 <= channels && channels <= 8);
+        let planar = &samples[..1300 * channels as usize];
+        assert!(rt; planar.len() % channels as usize == 0);
+        let mut hasher = Md5::new();
+        hasher.update_planar(planar, channels, 16);
+        let digest = u128::from_be_bytes(hasher.finish());
+        assert!(rt; digest == want, "{channels} channels");
+    }
+}

@@ -4,7 +4,7 @@ use Rattle.std.specs.Prelude.{Result, Ok, Err, IfOk, IfSome}
 use Rattle.std.specs.Io.Cursor.{cursor_position, cursor_inner}
 use Rattle.std.proofs.lemmas.List.{length-drop}
 use Rattle.claxon.specs.Fault.{Fault}
-use Rattle.claxon.specs.Frame.{StreamFormat, Frame}
+use Rattle.claxon.specs.Frame.{StreamFormat, Frame, FrameBytesFault}
 use Rattle.claxon.specs.Heads.{Head, HeadCode, HeadFault, Marker, stream_marker}
 use Rattle.claxon.specs.Streams.{with_samples}
 use Rattle.claxon.specs.Cursor.{cursor_left, cursor_source}
@@ -16,12 +16,12 @@ use Rattle.claxon.specs.MetadataBlock.{HasBounds}
 use Rattle.claxon.specs.StreamInfos.{StreamInfo}
 use Rattle.claxon.specs.FrameReader.{FrameAnswer, block_view}
 use Rattle.claxon.specs.ReadHead.{HeadOutOfMemoryAfterHeader, MemoryMayBeNeeded}
-use Rattle.claxon.specs.StartedFrame.{RestAnswer, RestOf, whole_answer}
+use Rattle.claxon.specs.StartedFrame.{RestAnswer, RestFault, RestOf, whole_answer}
 use Rattle.claxon.proofs.FramesInMemory.{Slice, SliceFramePromises, begins_with_consumed, slice_state}
 use Rattle.claxon.specs.Prefix.{BeginsWith}
 use Rattle.claxon.specs.Error.{IsFault}
 use Rattle.claxon.specs.OtherErrors.{IfOtherErr}
-use Rattle.claxon_seek.specs.AtStart.{FrameAtStart, BeginsWithLength, HeadAtStart}
+use Rattle.claxon_seek.specs.AtStart.{FaultIsTaken, FrameAtStart, BeginsWithLength, HeadAtStart}
 
 abbrev pub shown_bytes : Bor (List ℕ) → List ℕ
 shown_bytes s = s.now
@@ -46,15 +46,26 @@ module _ (bytes : List ℕ) (a : State ℕ) (b : Slice) (taken : ℕ) (remains :
 
 -- the rest of a frame, after the bytes of its header
 module _ (stream : Option StreamFormat) (bytes header rest : List ℕ) (a : State ℕ) (b : Slice) (taken : ℕ) (parts : bytes ≡ header ++ rest) (remains : Remains a rest) (count : taken ≡ length bytes - cursor_left shown_bytes b) where
-  completed_with_length : (r : RestAnswer) → CodeIsSound block_view r (RestOf stream header) a (slice_state b) → IfOk (whole_answer r) (λ found. IfSome found (λ block. BeginsWithLength (Frame stream (block_view block)) bytes taken))
-  completed_with_length (Ok block) h =
+  completed : {Code : List ℕ → Type 0} → Consumed a (slice_state b) (λ t. Code (header ++ t)) → BeginsWithLength Code bytes taken
+  completed h =
       let k = (h remains.known).1 in
       let left = cursor_remains shown_bytes b in
       let m = (slice_state b).remaining in
       let joined : bytes ≡ (header ++ k.0) ++ m = parts ∙ ap (λ (z : List ℕ). header ++ z) (sym remains.are ∙ k.2) ∙ sym (append_assoc header k.0 m) in
       let last : length m ≡ cursor_left shown_bytes b = ap length left.are ∙ length-drop (cursor_position b) (cursor_inner b).now in
       (header ++ k.0, m, k.1, joined, omega (arith, count, last, ap length joined, length-append (header ++ k.0) m))
+
+  completed_with_length : (r : RestAnswer) → CodeIsSound block_view r (RestOf stream header) a (slice_state b) → IfOk (whole_answer r) (λ found. IfSome found (λ block. BeginsWithLength (Frame stream (block_view block)) bytes taken))
+  completed_with_length (Ok block) h = completed h
   completed_with_length (Err e) h = tt
+
+  pub fault_is_taken : (r : RestAnswer) → FaultIsSound r (RestFault stream header) a (slice_state b) → FaultIsTaken stream bytes r taken
+  fault_is_taken (Ok block) h = tt
+  fault_is_taken (Err e) h = elim h [
+    | inl m ↦ inl m
+    | inr (inl i) ↦ inr (inl i)
+    | inr (inr k) ↦ inr (inr (let f = k remains.known in (f.0, f.1, completed {Code = FrameBytesFault stream f.0} f.2)))
+  ]
 
   pub rest_at_start : (r : RestAnswer) → CodeIsSound block_view r (RestOf stream header) a (slice_state b) → SliceFramePromises stream (header ++ rest) (whole_answer r) → FrameAtStart stream bytes (whole_answer r) taken
   rest_at_start r h promises =

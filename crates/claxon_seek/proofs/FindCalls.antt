@@ -7,7 +7,7 @@ use Rattle.claxon.specs.Errors.TheVariants.{OutOfMemory}
 use Rattle.claxon.specs.Promises.{IsOutOfMemory}
 use Rattle.claxon.specs.StreamInfos.{StreamInfo}
 use Rattle.claxon_seek.specs.Find.{BudgetIsSpent, FindGives, FindOutOfMemoryAfterHeader, FirstIsFound, FoundIsFirst, NoFrameBetween, NoneIsNotFound, NotFoundIsNone, PassesBudget, StopsOverBudget, UndecidedIsFirst, WantedHeader}
-use Rattle.claxon_seek.specs.Seek.{SeekGives, SeekIsComplete, SeekIsSound, SeekNoneIsNotFound, SeekNotFoundIsNone, SeekOutOfMemoryAfterHeader, SeekStopsOverBudget}
+use Rattle.claxon_seek.specs.Seek.{PassesInVain, SeekGives, SeekIsComplete, SeekIsSound, SeekNoneIsNotFound, SeekNotFoundFitsBudget, SeekNotFoundIsNone, SeekOutOfMemoryAfterHeader, SeekStopsOverBudget, SeekUndecidedIsFirst}
 use Rattle.claxon_seek.specs.declared.search.Search.{Search}
 use Rattle.claxon_seek.specs.declared.search.Search.TheVariants.{Found, NotFound, OverBudget}
 use Rattle.claxon_seek.proofs.Searches.{same_header}
@@ -80,13 +80,6 @@ module _ (known : Option StreamInfo) (bytes : List ℕ) (from budget : ℕ) wher
 -- ---- a frame with a sample
 
 module _ (known : Option StreamInfo) (bytes : List ℕ) (first sample budget : ℕ) where
-  -- the first such frame will do
-  pub first_will_do : (r : Result Search Error) → (left : ℕ) → FindGives known (Some sample) bytes first budget r left → SeekGives known bytes first sample budget r
-  first_will_do (Ok (Found at)) left g = (g.0, g.1)
-  first_will_do (Ok (NotFound undecided)) left g = g.0
-  first_will_do (Ok (OverBudget to)) left g = (g.0, g.1)
-  first_will_do (Err e) left g = (g.0, (g.1.0, g.1.1, g.1.2, g.1.3))
-
   pub seek_is_sound : (r : Result Search Error) → SeekGives known bytes first sample budget r → SeekIsSound known bytes first sample budget r
   seek_is_sound (Ok (Found at)) g = g
   seek_is_sound (Ok (NotFound undecided)) g = tt
@@ -95,31 +88,41 @@ module _ (known : Option StreamInfo) (bytes : List ℕ) (first sample budget : �
 
   pub seek_is_complete : (r : Result Search Error) → SeekGives known bytes first sample budget r → SeekIsComplete known bytes first sample budget r
   seek_is_complete (Ok (Found f)) g at info after frame = inl tt
-  seek_is_complete (Ok (NotFound undecided)) g at info after frame = absurd (g at after info frame)
-  seek_is_complete (Ok (OverBudget to)) g at info after frame = elim (cases_lt at to) [
-    | inl lt ↦ absurd (g.0 at after lt info frame)
-    | inr le ↦ inr (inl (to, le, g.1))
+  seek_is_complete (Ok (NotFound undecided)) g at info after frame = absurd (g.0 at after info frame)
+  seek_is_complete (Ok (OverBudget to)) g at info after frame = elim (cases_lt to at) [
+    | inl lt ↦ inr (inl (to, lt, g))
+    | inr le ↦ absurd (g.0 at after (omega (arith, le)) info frame)
   ]
   seek_is_complete (Err e) g at info after frame = inr (inr g.0)
 
   pub seek_not_found_is_none : (r : Result Search Error) → SeekGives known bytes first sample budget r → SeekNotFoundIsNone known bytes first sample budget r
   seek_not_found_is_none (Ok (Found at)) g = tt
-  seek_not_found_is_none (Ok (NotFound undecided)) g = g
+  seek_not_found_is_none (Ok (NotFound undecided)) g = g.0
   seek_not_found_is_none (Ok (OverBudget to)) g = tt
   seek_not_found_is_none (Err e) g = tt
+
+  pub seek_undecided_is_first : (r : Result Search Error) → SeekGives known bytes first sample budget r → SeekUndecidedIsFirst known bytes first sample budget r
+  seek_undecided_is_first (Ok (Found at)) g = tt
+  seek_undecided_is_first (Ok (NotFound undecided)) g = g.2
+  seek_undecided_is_first (Ok (OverBudget to)) g = tt
+  seek_undecided_is_first (Err e) g = tt
+
+  pub seek_not_found_fits_budget : (r : Result Search Error) → SeekGives known bytes first sample budget r → SeekNotFoundFitsBudget known bytes first sample budget r
+  seek_not_found_fits_budget (Ok (Found at)) g = tt
+  seek_not_found_fits_budget (Ok (NotFound undecided)) g = g.1
+  seek_not_found_fits_budget (Ok (OverBudget to)) g = tt
+  seek_not_found_fits_budget (Err e) g = tt
 
   pub seek_none_is_not_found : (r : Result Search Error) → SeekGives known bytes first sample budget r → SeekNoneIsNotFound known bytes first sample budget r
   seek_none_is_not_found (Ok (Found at)) g none = absurd (none at.position g.0 at.block g.1)
   seek_none_is_not_found (Ok (NotFound undecided)) g none = inl tt
-  seek_none_is_not_found (Ok (OverBudget to)) g none = inr (inl (to, g.1))
+  seek_none_is_not_found (Ok (OverBudget to)) g none = inr (inl (to, g))
   seek_none_is_not_found (Err e) g none = inr (inr g.0)
 
   pub seek_stops_over_budget : (r : Result Search Error) → SeekGives known bytes first sample budget r → SeekStopsOverBudget known bytes first sample budget r
   seek_stops_over_budget (Ok (Found at)) g to is = absurd cc
   seek_stops_over_budget (Ok (NotFound undecided)) g to is = absurd cc
-  seek_stops_over_budget (Ok (OverBudget at)) g to is =
-      let same : at ≡ to = cc in
-      (subst (λ (n : ℕ). NoFrameBetween known (Some sample) bytes first n) same g.0, subst (λ (n : ℕ). PassesBudget known (Some sample) bytes first budget n) same g.1)
+  seek_stops_over_budget (Ok (OverBudget at)) g to is = let same : at ≡ to = cc in subst (λ (n : ℕ). PassesInVain known bytes first sample budget n) same g
   seek_stops_over_budget (Err e) g to is = absurd cc
 
   pub seek_out_of_memory : (r : Result Search Error) → SeekGives known bytes first sample budget r → SeekOutOfMemoryAfterHeader known bytes first sample budget r

@@ -8,6 +8,8 @@ pub mod SyncCode
 pub mod Searches
 -- A frame with a sample at a position, and its block.
 pub mod BlockSearches
+-- Requests for memory that were refused.
+pub mod BlockMemories
 -- The clauses of a search, from all that it answers.
 pub mod FindCalls
 -- A window on a source, and the blocks and samples that a reader finds in it.

@@ -17,7 +17,7 @@ use Rattle.claxon.specs.Promises.{Consumed, IsOutOfMemory}
 use Rattle.claxon.specs.State.{State}
 use Rattle.claxon.specs.StreamInfos.{StreamInfo}
 use Rattle.claxon_seek.specs.AtStart.{FrameAtStart}
-use Rattle.claxon_seek.specs.Attempt.{IsCut}
+use Rattle.claxon_seek.specs.Attempt.{AnswerIsCut}
 use Rattle.claxon_seek.specs.Find.{WantedFrame}
 use Rattle.claxon_seek.specs.SeekableReader.{BlockHasSample, IsOfBytes, NextGives, NoFrame, WasConsumed}
 use Rattle.claxon_seek.specs.Window.{IsIoOrMemory, ReadsOn}
@@ -64,7 +64,7 @@ not_memory e io memory =
 
 module _ (info : StreamInfo) (bytes : List ℕ) (taken : ℕ) where
   -- an answer of bytes that end within a frame, or before it
-  pub cut_without_frame : (r : FrameAnswer) → FrameAtStart (Some (stream_with info)) bytes r taken → IsCut r → NoFrame (stream_with info) bytes
+  pub cut_without_frame : (r : FrameAnswer) → FrameAtStart (Some (stream_with info)) bytes r taken → AnswerIsCut r → NoFrame (stream_with info) bytes
   cut_without_frame (Ok None) h cut block begins = (cut_without_bytes (Some info) bytes taken h).0 (record { block = block; frame = begins })
   cut_without_frame (Ok (Some x)) h cut block begins = cut
   cut_without_frame (Err e) h cut block begins = elim (h.complete block begins) [ inl p ↦ p | inr memory ↦ not_memory e cut memory ]

@@ -10,7 +10,7 @@ use Rattle.claxon.specs.Error.{IsFault, IsIo}
 use Rattle.claxon.specs.Errors.{Error}
 use Rattle.claxon.specs.Errors.TheVariants.{IoError, OutOfMemory}
 use Rattle.claxon.specs.Fault.{Fault}
-use Rattle.claxon.specs.FlacReader.{HasBitDepth}
+use Rattle.claxon.specs.ShownHead.{HasBitDepth}
 use Rattle.claxon.specs.Frame.{Block, Frame, IsBitDepth, StreamFormat, known_bit_depth}
 use Rattle.claxon.specs.FrameReader.{FrameAnswer, block_view}
 use Rattle.claxon.specs.Prefix.{BeginsWith}
@@ -20,10 +20,10 @@ use Rattle.claxon.proofs.BlockInfo.{header_has_two_bytes, headers_unambiguous}
 use Rattle.claxon.proofs.FormatLaws.{frames_unambiguous}
 use Rattle.claxon.proofs.FrameHeaders.{frame_has_header}
 use Rattle.claxon.proofs.OutOfMemory.{not_out_of_memory}
-use Rattle.claxon_seek.specs.AtStart.{BeginsWithLength, FrameAtStart, HeaderAtStart}
-use Rattle.claxon_seek.specs.Find.{BeginsWithFrame, FindGives, FrameIsAtStart, HasFormat, HeaderSamples, HoldsSample, IsSpent, IsUndecided, NoFrameBetween, WantedFrame, WantedHeader, WantedHeaderAtStart, known_format}
+use Rattle.claxon_seek.specs.AtStart.{BeginsWithLength, FaultIsTaken, FrameAtStart, HeaderAtStart}
+use Rattle.claxon_seek.specs.Find.{BeginsWithFrame, FindGives, FrameIsAtStart, HasFormat, HeaderCost, HeaderCosts, HoldsSample, IsSpent, IsUndecided, NoFrameBetween, WantedFrame, WantedHeader, WantedHeaderAtStart, WastesBytes, known_format, wasted_by}
 use Rattle.claxon_seek.specs.declared.find.FrameThere.{FrameThere}
-use Rattle.claxon_seek.specs.declared.find.FrameThere.TheVariants.{CutFrame, Faulty}
+use Rattle.claxon_seek.specs.declared.find.FrameThere.TheVariants.{CutFrame, Faulty, Whole}
 use Rattle.claxon_seek.specs.declared.find.HeaderThere.TheVariants.{CutHeader, NotWanted}
 use Rattle.claxon_seek.specs.declared.search.Search.TheVariants.{Found, NotFound, OverBudget}
 
@@ -59,13 +59,16 @@ module _ (known : Option StreamInfo) (bytes : List ℕ) (taken : ℕ) where
   none_else r h other no_block found = elim (h.complete found.block found.frame) [ inl p ↦ no_block found.block p | inr m ↦ other m ]
 
   -- a fault of the bytes is one whatever follows
-  pub faulty_there : IsBitDepth (known_bit_depth stream) → (e : Error) → FrameAtStart stream bytes (Err e) taken → (e ≡ OutOfMemory → ⊥) → (IsIo e → ⊥) → FrameIsAtStart known bytes (Ok Faulty)
-  faulty_there depth e h other no_io more found = elim h.fault [
-    | inl m ↦ other m
-    | inr (inl i) ↦ no_io i
-    | inr (inr f) ↦ (let bad = begins_longer bytes more f.2 in let code = found.frame in
-        (frames_unambiguous stream depth).no_fault found.block f.0 code.0 bad.0 code.1 bad.1 code.2 bad.2 (sym code.3 ∙ bad.3))
-  ]
+  pub faulty_there : IsBitDepth (known_bit_depth stream) → (e : Error) → FrameAtStart stream bytes (Err e) taken → FaultIsTaken {A = BlockValue} stream bytes (Err e) taken → (e ≡ OutOfMemory → ⊥) → (IsIo e → ⊥) → FrameIsAtStart known bytes (Ok (Faulty taken))
+  faulty_there depth e h t other no_io = (
+    λ more found. elim h.fault [
+      | inl m ↦ other m
+      | inr (inl i) ↦ no_io i
+      | inr (inr f) ↦ (let bad = begins_longer bytes more f.2 in let code = found.frame in
+          (frames_unambiguous stream depth).no_fault found.block f.0 code.0 bad.0 code.1 bad.1 code.2 bad.2 (sym code.3 ∙ bad.3))
+    ],
+    elim t [ inl m ↦ absurd (other m) | inr (inl i) ↦ absurd (no_io i) | inr (inr f) ↦ (f.0, f.2) ],
+  )
 
   cut : (r : FrameAnswer) → FrameAtStart stream bytes r taken → (IsOutOfMemory r → ⊥) → ((block : Block) → IsOkAnd r (λ found. IsSomeAnd found (λ x. block_view x ≡ block)) → ⊥) → ((f : Fault) → IsErrAnd r (IsFault f) → ⊥) → FrameIsAtStart known bytes (Ok CutFrame)
   cut r h other no_block no_fault = (
@@ -81,6 +84,13 @@ module _ (known : Option StreamInfo) (bytes : List ℕ) (taken : ℕ) where
 
   pub cut_by_io : (cause : _) → FrameAtStart stream bytes (Err (IoError cause)) taken → FrameIsAtStart known bytes (Ok CutFrame)
   cut_by_io cause h = cut (Err (IoError cause)) h (λ m. absurd cc) (λ block p. p) (λ f p. p)
+
+-- ---- the bytes that are read in vain
+
+pub wastes_there : (known : Option StreamInfo) (bytes : List ℕ) (f : FrameThere) → FrameIsAtStart known bytes (Ok f) → WastesBytes known bytes (wasted_by f (length bytes))
+wastes_there known bytes (Whole len block) h = inl (whole_there known bytes len block h, refl)
+wastes_there known bytes (Faulty len) h = inr (inl h.1)
+wastes_there known bytes CutFrame h = inr (inr (h.1, refl))
 
 -- ---- the header that bytes begin with
 
@@ -173,8 +183,7 @@ module _ (known : Option StreamInfo) (sample : Option ℕ) where
       none = λ at after before. absurd (omega (arith, after, before));
       spent =
           let none : from - from ≡ 0 = omega arith in
-          let all : budget - budget ≡ 0 = omega arith in
-          (omega arith, rw (none, all) refl);
+          (0, rw none refl, omega arith);
       decided = λ more at after before. absurd (omega (arith, after, before));
       after_from = omega (arith, is);
       most = omega (arith, is);
@@ -182,7 +191,7 @@ module _ (known : Option StreamInfo) (sample : Option ℕ) where
     }
 
     -- one more position at which no frame begins
-    one_more : (s : List ℕ) (to : ℕ) → NoFrameBetween known sample s from to → ((info : BlockInfo) → WantedFrame known sample (drop to s) info → ⊥) → NoFrameBetween known sample s from (to + 1)
+    pub one_more : (s : List ℕ) (to : ℕ) → NoFrameBetween known sample s from to → ((info : BlockInfo) → WantedFrame known sample (drop to s) info → ⊥) → NoFrameBetween known sample s from (to + 1)
     one_more s to none here at after before info wanted = elim (cases_lt at to) [
       | inl lt ↦ none at after lt info wanted
       | inr le ↦ (let same : at ≡ to = omega (arith, le, before) in here info (subst (λ (n : ℕ). WantedFrame known sample (drop n s) info) same wanted))
@@ -194,8 +203,8 @@ module _ (known : Option StreamInfo) (sample : Option ℕ) where
     at_position : (position : ℕ) → from ≤ position → (P : ℕ → Type 0) → P position → P (from + (position - from))
     at_position position passed P p = let e : position ≡ from + (position - from) = omega arith in subst P e p
 
-    next_count : (position n : ℕ) → from ≤ position → HeaderSamples known sample bytes from (suc (position - from)) n → HeaderSamples known sample bytes from (position + 1 - from) n
-    next_count position n passed h = let e : suc (position - from) ≡ position + 1 - from = omega arith in subst (λ (k : ℕ). HeaderSamples known sample bytes from k n) e h
+    next_count : (position n : ℕ) → from ≤ position → HeaderCosts known sample bytes from budget (suc (position - from)) n → HeaderCosts known sample bytes from budget (position + 1 - from) n
+    next_count position n passed h = let e : suc (position - from) ≡ position + 1 - from = omega arith in subst (λ (k : ℕ). HeaderCosts known sample bytes from budget k n) e h
 
     -- nothing that is wanted begins there, whatever follows
     still_decided : (undecided position : ℕ) → position < length bytes → ((more : List ℕ) → NoFrameBetween known sample (bytes ++ more) from (min undecided position))
@@ -209,15 +218,18 @@ module _ (known : Option StreamInfo) (sample : Option ℕ) where
     -- with no header there
     passed_no_header : (left position : ℕ) → from ≤ position → ((info : BlockInfo) → WantedHeader known sample (drop position bytes) info → ⊥) → IsSpent known sample bytes from (position - from) budget left → IsSpent known sample bytes from (position + 1 - from) budget left
     passed_no_header left position passed none spent =
-        (spent.0, next_count position (budget - left) passed (inl (at_position position passed (λ (n : ℕ). (info : BlockInfo) → WantedHeader known sample (drop n bytes) info → ⊥) none, spent.1)))
+        (spent.0, next_count position spent.0 passed (inl (at_position position passed (λ (n : ℕ). (info : BlockInfo) → WantedHeader known sample (drop n bytes) info → ⊥) none, spent.1)), spent.2)
 
-    -- with a header there, of a block with so many samples
-    passed_header : (left position : ℕ) (info : BlockInfo) → from ≤ position → WantedHeader known sample (drop position bytes) info → info.channels * info.duration ≤ left → IsSpent known sample bytes from (position - from) budget left
-        → IsSpent known sample bytes from (position + 1 - from) budget (left - info.channels * info.duration)
-    passed_header left position info passed wanted fits spent =
-        let h = next_count position (budget - left + info.channels * info.duration) passed (inr (info, budget - left, at_position position passed (λ (n : ℕ). WantedHeader known sample (drop n bytes) info) wanted, spent.1, refl)) in
-        let e : budget - left + info.channels * info.duration ≡ budget - (left - info.channels * info.duration) = omega (arith, spent.0, fits) in
-        (omega (arith, spent.0), subst (λ (n : ℕ). HeaderSamples known sample bytes from (position + 1 - from) n) e h)
+    -- with a header there, of a block with so many samples, and so many bytes that were read in vain
+    passed_header : (left position wasted : ℕ) (info : BlockInfo) → from ≤ position → WantedHeader known sample (drop position bytes) info → info.channels * info.duration ≤ left → WastesBytes known (drop position bytes) wasted
+        → IsSpent known sample bytes from (position - from) budget left → IsSpent known sample bytes from (position + 1 - from) budget (left - info.channels * info.duration - wasted)
+    passed_header left position wasted info passed wanted fits wastes spent =
+        let before : ℕ = spent.0 in
+        let samples : ℕ = info.channels * info.duration in
+        let n : ℕ = before + samples + wasted in
+        let cost : HeaderCost known sample (drop position bytes) budget before n = record { info = info; wasted = wasted; header = wanted; fits = omega (arith, fits, spent.2); wastes = wastes; is = refl } in
+        let h = next_count position n passed (inr (before, spent.1, at_position position passed (λ (p : ℕ). HeaderCost known sample (drop p bytes) budget before n) cost)) in
+        (n, h, omega (arith, spent.2))
 
     module _ (left undecided position : ℕ) (s : Searched bytes from budget left undecided position) (inside : position < length bytes) where
       nothing : (info : BlockInfo) → WantedHeaderAtStart known sample (drop position bytes) NotWanted → WantedHeader known sample (drop position bytes) info → ⊥
@@ -262,31 +274,34 @@ module _ (known : Option StreamInfo) (sample : Option ℕ) where
         over_budget more = (
           s.none,
           record {
-            before = budget - left;
+            before = s.spent.0;
             last = info;
             after_from = s.passed;
             header = wanted;
-            samples = s.spent.1;
-            within = omega arith;
-            passes = omega (arith, s.spent.0, more);
+            costs = s.spent.1;
+            passes = omega (arith, s.spent.2, more);
           },
           s.spent,
         )
 
         module _ (fits : info.channels * info.duration ≤ left) where
-          abbrev rest_left : ℕ
-          rest_left = left - info.channels * info.duration
+          -- of the budget after the header and n bytes that were read in vain
+          abbrev rest_left : ℕ → ℕ
+          rest_left n = left - info.channels * info.duration - n
 
-          pub whole_frame_there : BeginsWithFrame (known_format known) (drop position bytes) → FindGives known sample bytes from budget (Ok (Found (record { position = position; block = info }))) rest_left
-          whole_frame_there found = (s.passed, frame_is_wanted (drop position bytes) info wanted found, s.none, passed_header left position info s.passed wanted fits s.spent)
+          there_spent : (f : FrameThere) → FrameIsAtStart known (drop position bytes) (Ok f) → IsSpent known sample bytes from (position + 1 - from) budget (rest_left (wasted_by f (length (drop position bytes))))
+          there_spent f h = passed_header left position (wasted_by f (length (drop position bytes))) info s.passed wanted fits (wastes_there known (drop position bytes) f h) s.spent
 
-          pub faulty_frame_there : FrameIsAtStart known (drop position bytes) (Ok Faulty) → Searched bytes from budget rest_left undecided (position + 1)
-          faulty_frame_there faulty = record {
+          pub whole_frame_there : (len : ℕ) (block : BlockValue) → FrameIsAtStart known (drop position bytes) (Ok (Whole len block)) → FindGives known sample bytes from budget (Ok (Found (record { position = position; block = info }))) (rest_left 0)
+          whole_frame_there len block frame = (s.passed, frame_is_wanted (drop position bytes) info wanted (whole_there known (drop position bytes) len block frame), s.none, there_spent (Whole len block) frame)
+
+          pub faulty_frame_there : (len : ℕ) → FrameIsAtStart known (drop position bytes) (Ok (Faulty len)) → Searched bytes from budget (rest_left len) undecided (position + 1)
+          faulty_frame_there len faulty = record {
             passed = omega (arith, s.passed);
             inside = inr (omega (arith, inside));
-            none = one_more bytes position s.none (λ x frame. faulty [] (frame_longer (drop position bytes) [] (frame_of_wanted (drop position bytes) x frame)));
-            spent = passed_header left position info s.passed wanted fits s.spent;
-            decided = still_decided undecided position inside s.decided (λ more x frame. faulty more (frame_of_wanted (drop position bytes ++ more) x frame));
+            none = one_more bytes position s.none (λ x frame. faulty.0 [] (frame_longer (drop position bytes) [] (frame_of_wanted (drop position bytes) x frame)));
+            spent = there_spent (Faulty len) faulty;
+            decided = still_decided undecided position inside s.decided (λ more x frame. faulty.0 more (frame_of_wanted (drop position bytes ++ more) x frame));
             after_from = s.after_from;
             most = s.most;
             why = elim s.why [ inl le ↦ inl le | inr k ↦ inr (omega (arith, k.0), k.1) ];
@@ -295,20 +310,20 @@ module _ (known : Option StreamInfo) (sample : Option ℕ) where
               frame_longer : (bytes more : List ℕ) → BeginsWithFrame (known_format known) bytes → BeginsWithFrame (known_format known) (bytes ++ more)
               frame_longer bytes more f = record { block = f.block; frame = begins_longer bytes more f.frame }
 
-          pub cut_frame_there : FrameIsAtStart known (drop position bytes) (Ok CutFrame) → Searched bytes from budget rest_left (min undecided position) (position + 1)
+          pub cut_frame_there : FrameIsAtStart known (drop position bytes) (Ok CutFrame) → Searched bytes from budget (rest_left (length (drop position bytes))) (min undecided position) (position + 1)
           cut_frame_there cut = record {
             passed = omega (arith, s.passed);
             inside = inr (omega (arith, inside));
             none = one_more bytes position s.none (λ x frame. cut.0 (frame_of_wanted (drop position bytes) x frame));
-            spent = passed_header left position info s.passed wanted fits s.spent;
+            spent = there_spent CutFrame cut;
             decided = decided_before;
             after_from = omega (arith, s.after_from, s.passed);
             most = omega (arith, s.most);
             why = undecided_there (inr (inr cut.1));
           }
 
-          pub out_of_memory_there : (e : Error) → FrameIsAtStart known (drop position bytes) (Err e) → FindGives known sample bytes from budget (Err e) rest_left
-          out_of_memory_there e memory = (ap (λ (x : Error). Err x) (memory_is e memory.0), (position, info, s.passed, wanted, s.none))
+          pub out_of_memory_there : (e : Error) (rest : ℕ) → FrameIsAtStart known (drop position bytes) (Err e) → FindGives known sample bytes from budget (Err e) rest
+          out_of_memory_there e rest memory = (ap (λ (x : Error). Err x) (memory_is e memory.0), (position, info, s.passed, wanted, s.none))
             where
               memory_is : (e : Error) → IsOutOfMemory {A = FrameThere} (Err e) → e ≡ OutOfMemory
               memory_is e is = cc

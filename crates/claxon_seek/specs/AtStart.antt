@@ -23,7 +23,7 @@ use Rattle.std.specs.Prelude.{
   IsSomeAnd,
 }
 use Rattle.claxon.specs.Fault.{Fault}
-use Rattle.claxon.specs.Frame.{StreamFormat, Frame}
+use Rattle.claxon.specs.Frame.{StreamFormat, Frame, FrameBytesFault}
 use Rattle.claxon.specs.Heads.{Head, HeadCode, HeadFault, Marker, stream_marker}
 use Rattle.claxon.specs.Streams.{with_samples}
 use Rattle.claxon.specs.Error.{IsFault, IsIo}
@@ -79,6 +79,12 @@ pub record FrameAtStart (stream : Option StreamFormat) (bytes : List ℕ) (r : F
   pub fault : SliceFrameFaultIsSound stream bytes r
   pub named : SliceFrameFaultIsComplete stream bytes r
   pub memory : SliceFrameOutOfMemoryAfterHeader stream bytes r
+
+-- Of a fault `taken` is the number of its bytes.
+abbrev pub FaultIsTaken : {A : Type 0} → Option StreamFormat → List ℕ → Result A Error → ℕ → Type 0
+FaultIsTaken stream bytes r taken =
+    IfOtherErr r (λ e.
+    (f : Fault) × IsFault f e × BeginsWithLength (FrameBytesFault stream f) bytes taken)
 
 -- The bytes begin with the header that says what is returned, or with what the error says, or they
 -- are too few for a header.

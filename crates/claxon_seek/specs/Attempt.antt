@@ -4,7 +4,7 @@ use Rattle.claxon.specs.Error.{IsIo}
 use Rattle.claxon.specs.FrameReader.{FrameAnswer}
 
 -- The bytes ended within the frame, or before it.
-abbrev pub IsCut : FrameAnswer → Type 0
-IsCut (Ok None) = Unit {0}
-IsCut (Ok (Some block)) = ⊥
-IsCut (Err e) = IsIo e
+abbrev pub AnswerIsCut : FrameAnswer → Type 0
+AnswerIsCut (Ok None) = Unit {0}
+AnswerIsCut (Ok (Some block)) = ⊥
+AnswerIsCut (Err e) = IsIo e

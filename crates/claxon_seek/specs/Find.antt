@@ -28,6 +28,7 @@ use Rattle.claxon.specs.BlockInfo.{HeaderBytesFault, HeaderOf, SaysBlock}
 use Rattle.claxon.specs.BlockInfos.{BlockInfo}
 use Rattle.claxon.specs.Errors.{Error}
 use Rattle.claxon.specs.Errors.TheVariants.{OutOfMemory}
+use Rattle.claxon.specs.Fault.{Fault}
 use Rattle.claxon.specs.Frame.{Block, Frame, FrameBytesFault, StreamFormat}
 use Rattle.claxon.specs.FrameReader.{HeaderOfLargerBlock, block_view, stream_with}
 use Rattle.claxon.specs.Prefix.{BeginsWith}
@@ -73,14 +74,29 @@ abbrev pub EndsInFrame : Option StreamInfo → List ℕ → Type 0
 EndsInFrame known bytes =
     HasNeither (Frame (known_format known)) (FrameBytesFault (known_format known)) bytes
 
--- More bytes can make a frame that begins at the position: fewer than two are left there, or they
--- end within a header or a frame.
+-- It isn't decided whether a frame begins at the position: fewer than two bytes are left there, or
+-- they end within a header or a frame.
 abbrev pub IsUndecided : Option StreamInfo → List ℕ → ℕ → Type 0
 IsUndecided known bytes at =
     (length bytes < at + 2)
     ⊎ (EndsInHeader known (drop at bytes) ⊎ EndsInFrame known (drop at bytes))
 
--- ---- where frames begin, and how many samples their headers say
+-- ---- the cost of a try
+
+-- The bytes begin with a frame.
+pub record BeginsWithFrame (stream : Option StreamFormat) (bytes : List ℕ) : Type 0 where
+  pub block : Block
+  pub frame : BeginsWith (Frame stream block) bytes
+
+-- A frame begins there, and n is 0; or none does, and n bytes are read in vain: those of the fault,
+-- or all where they end within what may be a frame.
+abbrev pub WastesBytes : Option StreamInfo → List ℕ → ℕ → Type 0
+WastesBytes known bytes n =
+    (BeginsWithFrame (known_format known) bytes × (n ≡ 0))
+    ⊎ (((f : Fault) × BeginsWithLength (FrameBytesFault (known_format known) f) bytes n)
+    ⊎ (EndsInFrame known bytes × (n ≡ length bytes)))
+
+-- ---- where frames begin, and what their headers cost
 
 -- Frames with the streaminfo's number of channels and bit depth, whose block has this sample.
 module _ (known : Option StreamInfo) (sample : Option ℕ) where
@@ -106,32 +122,41 @@ module _ (known : Option StreamInfo) (sample : Option ℕ) where
   NoFrameFrom bytes from =
       (at : ℕ) → from ≤ at → (info : BlockInfo) → WantedFrame (drop at bytes) info → ⊥
 
-  -- n is the number of samples, of all channels, of the blocks whose headers begin at the first
-  -- count positions from this one on.
-  abbrev pub HeaderSamples : List ℕ → ℕ → ℕ → ℕ → Type 0
-  HeaderSamples bytes from zero n = n ≡ 0
-  HeaderSamples bytes from (suc count) n =
-      (((info : BlockInfo) → WantedHeader (drop (from + count) bytes) info → ⊥)
-      × HeaderSamples bytes from count n)
-      ⊎ ((info : BlockInfo) × (before : ℕ) × WantedHeader (drop (from + count) bytes) info
-      × HeaderSamples bytes from count before × (n ≡ before + info.channels * info.duration))
+  -- After headers that cost `before` the bytes begin with one of which the block has no more
+  -- samples, of all channels, than are left of the budget. With it n is the cost: these samples
+  -- too, and the bytes of the frame if they were read in vain.
+  pub record HeaderCost (bytes : List ℕ) (budget before n : ℕ) : Type 0 where
+    pub info : BlockInfo
+    pub wasted : ℕ
+    pub header : WantedHeader bytes info
+    pub fits : info.channels * info.duration ≤ budget - before
+    pub wastes : WastesBytes known bytes wasted
+    pub is : n ≡ before + info.channels * info.duration + wasted
 
-  -- The blocks of the headers from one position on, up to another with it, have more samples than
-  -- the budget, and without the last of them they don't.
+  -- n is the cost of the headers that begin at the first count positions from this one on.
+  abbrev pub HeaderCosts : List ℕ → ℕ → ℕ → ℕ → ℕ → Type 0
+  HeaderCosts bytes from budget zero n = n ≡ 0
+  HeaderCosts bytes from budget (suc count) n =
+      (((info : BlockInfo) → WantedHeader (drop (from + count) bytes) info → ⊥)
+      × HeaderCosts bytes from budget count n)
+      ⊎ ((before : ℕ) × HeaderCosts bytes from budget count before
+      × HeaderCost (drop (from + count) bytes) budget before n)
+
+  -- A header begins at the position `to`, and its block has more samples than are left of the
+  -- budget after the headers that begin before it, from one position on.
   pub record PassesBudget (bytes : List ℕ) (from : ℕ) (budget : ℕ) (to : ℕ) : Type 0 where
     pub before : ℕ
     pub last : BlockInfo
     pub after_from : from ≤ to
     pub header : WantedHeader (drop to bytes) last
-    pub samples : HeaderSamples bytes from (to - from) before
-    pub within : before ≤ budget
-    pub passes : budget < before + last.channels * last.duration
+    pub costs : HeaderCosts bytes from budget (to - from) before
+    pub passes : budget - before < last.channels * last.duration
 
-  -- Of the budget so much is left after the blocks of the headers at the first count positions from
-  -- this one on.
+  -- Of the budget so much is left after the headers at the first count positions from this one on:
+  -- nothing where they cost more.
   abbrev pub IsSpent : List ℕ → ℕ → ℕ → ℕ → ℕ → Type 0
   IsSpent bytes from count budget left =
-      (left ≤ budget) × HeaderSamples bytes from count (budget - left)
+      (n : ℕ) × HeaderCosts bytes from budget count n × (left ≡ budget - n)
 
   -- ---- what a search for the first one from a position on answers
 
@@ -168,28 +193,31 @@ module _ (known : Option StreamInfo) (sample : Option ℕ) where
   WantedHeaderAtStart bytes CutHeader =
       ((info : BlockInfo) → WantedHeader bytes info → ⊥) × EndsInHeader known bytes
 
--- The bytes begin with a frame.
-pub record BeginsWithFrame (stream : Option StreamFormat) (bytes : List ℕ) : Type 0 where
-  pub block : Block
-  pub frame : BeginsWith (Frame stream block) bytes
-
--- The bytes begin with a frame, or with none whatever follows, or they end within one.
--- `OutOfMemory`, and no other Err, is returned only for one whose header they begin with.
+-- The bytes begin with a frame, or with a fault, of this length, and then with no frame whatever
+-- follows, or they end within one. `OutOfMemory`, and no other Err, is returned only for one whose
+-- header they begin with.
 abbrev pub FrameIsAtStart : Option StreamInfo → List ℕ → Result FrameThere Error → Type 0
 FrameIsAtStart known bytes (Ok (Whole len block)) =
     BeginsWithLength (Frame (known_format known) (block_view block)) bytes len
-FrameIsAtStart known bytes (Ok Faulty) =
-    (more : List ℕ) → BeginsWithFrame (known_format known) (bytes ++ more) → ⊥
+FrameIsAtStart known bytes (Ok (Faulty len)) =
+    ((more : List ℕ) → BeginsWithFrame (known_format known) (bytes ++ more) → ⊥)
+    × ((f : Fault) × BeginsWithLength (FrameBytesFault (known_format known) f) bytes len)
 FrameIsAtStart known bytes (Ok CutFrame) =
     (BeginsWithFrame (known_format known) bytes → ⊥) × EndsInFrame known bytes
 FrameIsAtStart known bytes (Err e) =
     IsOutOfMemory {A = FrameThere} (Err e)
     × BeginsWith (HeaderOfLargerBlock (known_format known) 0) bytes
 
+-- how many of so many bytes were read in vain
+abbrev pub wasted_by : FrameThere → ℕ → ℕ
+wasted_by (Whole len block) count = 0
+wasted_by (Faulty len) count = len
+wasted_by CutFrame count = count
+
 -- what is known of a sample, where a header says that its block has it
 abbrev pub sample_there : FrameThere → BlockInfo → SampleThere
 sample_there (Whole len block) info = Held info
-sample_there Faulty info = Absent
+sample_there (Faulty len) info = Absent
 sample_there CutFrame info = Undecided
 
 -- A frame whose block has the sample begins the bytes, if one is said to. An Err is `OutOfMemory`.
@@ -231,7 +259,7 @@ module _ (known : Option StreamInfo) (bytes : List ℕ) (from budget : ℕ)
       (from ≤ at.position) × WantedFrame known None (drop at.position bytes) at.block
       × NoFrameBetween known None bytes from at.position)
 
-  -- The first one is found, or the headers up to it pass the budget, or memory was refused.
+  -- The first one is found, or a header up to it passes the budget, or memory was refused.
   abbrev pub FirstIsFound : Type 0
   FirstIsFound = (at : ℕ) (info : BlockInfo) → from ≤ at
       → WantedFrame known None (drop at bytes) info → NoFrameBetween known None bytes from at
@@ -260,8 +288,8 @@ module _ (known : Option StreamInfo) (bytes : List ℕ) (from budget : ℕ)
   StopsOverBudget = (to : ℕ) → result ≡ Ok (OverBudget to)
       → NoFrameBetween known None bytes from to × PassesBudget known None bytes from budget to
 
-  -- The samples of the blocks of all headers that were read are taken from the budget: of those
-  -- up to the frame that is found, or before the position that is over budget, or of all.
+  -- What all headers cost that were read is taken from the budget: those up to the frame that is
+  -- found, or before the position that is over budget, or all.
   abbrev pub BudgetIsSpent : Type 0
   BudgetIsSpent =
       IfOk result (λ found. IsSpent known None bytes from (positions_read bytes from found) budget

@@ -4,11 +4,13 @@ ghost use Rattle.std.specs.Option.{option_map};
 ghost use Rattle.std.specs.Io.Cursor.{cursor_inner, cursor_position};
 ghost use Rattle.claxon.specs.Cursor.{cursor_left};
 ghost use Rattle.claxon.specs.ReadHead.{head_view};
-ghost use Rattle.claxon.specs.FlacReader.{HasBitDepth};
+ghost use Rattle.claxon.specs.ShownHead.{HasBitDepth};
 ghost use Rattle.claxon.specs.FrameReader.{frame_input, frame_stream, stream_with};
 ghost use Rattle.claxon.specs.Promises.{IsOutOfMemory};
 ghost use Rattle.claxon.specs.StartedFrame.{whole_answer};
+ghost use Rattle.claxon_seek.specs.BlockMemory.{MemoryIsCounted};
 ghost use Rattle.claxon_seek.specs.AtStart.{
+  FaultIsTaken,
   FoundHeaderIsThere,
   FrameAtStart,
   HeadAtStart,
@@ -19,9 +21,10 @@ ghost use Rattle.claxon_seek.specs.AtStart.{
   said_by,
 };
 
+use crate::memory::BlockMemory;
 use claxon::frame::{Block, BlockInfo, FrameReader, FrameResult, StartedFrame};
 use claxon::metadata::{StreamInfo, VorbisComment};
-use claxon::{FlacReaderOptions, Result, read_head};
+use claxon::{Error, FlacReaderOptions, Result, read_head};
 use std::alloc::Global;
 use std::io::Cursor;
 
@@ -126,14 +129,14 @@ fn with_length(found: Result<Option<StartedFrame>>, len: usize) -> Result<Option
     }
 }
 
-/// The block of the frame whose header the bytes begin with, and in `taken` the frame's number of bytes. The header isn't read
-/// again.
+/// The block of the frame whose header the bytes begin with, and in `taken` the number of bytes of the frame or of its fault. The
+/// header isn't read again.
 ///
 /// # Errors
 ///
 /// Those of `FrameReader::read_rest`.
 pub fn rest_at_start(
-    alloc: Global,
+    memory: &mut BlockMemory,
     bytes: &[u8],
     known: Option<StreamInfo>,
     header: HeaderInBytes,
@@ -143,9 +146,16 @@ pub fn rest_at_start(
     requires is_there { HeaderIsThere (option_map stream_with known) bytes.now header }
     ensures at_start { FrameAtStart (option_map stream_with known) bytes.now
         (whole_answer result) taken.new }
+    ensures fault_is_taken { FaultIsTaken (option_map stream_with known) bytes.now result
+        taken.new }
+    ensures memory_is_counted { MemoryIsCounted result memory.old memory.new }
 {
     let mut frames = frames_of(&bytes[header.len..], known);
-    let block = frames.read_rest(header.started, Vec::new(alloc));
+    let info = header.started.info();
+    let Some(buffer) = memory.request(info.channels as usize * info.duration as usize) else {
+        return Err(Error::OutOfMemory);
+    };
+    let block = frames.read_rest(header.started, buffer);
     let left = left_in(&frames.into_inner());
     *taken = bytes.len().saturating_sub(left);
     block

@@ -1,7 +1,8 @@
 //! The next position at which a frame begins.
 ghost use Rattle.std.specs.Prelude.{◌≡◌, ◌↔◌, IfSome, IsTrue};
-ghost use Rattle.claxon.specs.FlacReader.{HasBitDepth};
+ghost use Rattle.claxon.specs.ShownHead.{HasBitDepth};
 ghost use Rattle.claxon_seek.specs.AtStart.{HeaderIsThere, NoHeaderAtStart};
+ghost use Rattle.claxon_seek.specs.BlockMemory.{MemoryIsCounted};
 ghost use Rattle.claxon_seek.specs.Find.{
   BudgetIsSpent,
   FindGives,
@@ -19,31 +20,32 @@ ghost use Rattle.claxon_seek.specs.Find.{
   WantedHeaderAtStart,
   known_format,
   sample_there,
+  wasted_by,
 };
 ghost use Rattle.claxon_seek.specs.SeekBlock.{BlockIsDecoded, decoded_at, searched};
 
 use crate::at_start::{HeaderInBytes, header_at_start, rest_at_start};
+use crate::memory::BlockMemory;
 use crate::search::{BlockSearch, FoundBlock, FoundFrame, Search};
 use claxon::frame::BlockInfo;
 use claxon::metadata::StreamInfo;
 use claxon::{Block, Error, Result};
-use std::alloc::Global;
 
 /// Finds the first frame from the position `from` on, and what its header says of its block.
 ///
 /// The frame has the number of channels and the bit depth of the streaminfo where that is known. Its header is read first, with its
 /// CRC-8, so samples are decoded only where a header is. (RFC 9639, section 9.)
 ///
-/// The samples of the blocks whose headers are found are taken from the budget. `OverBudget` is returned at the position of a header
-/// whose block has more samples than are left: bytes that were
-/// made on purpose can have a header of a large block every few bytes. A search from that position on, with a budget of at least
-/// 524,280 samples, goes on.
+/// The samples of the blocks whose headers are found are taken from the budget, and the bytes of each frame that was read in vain: up
+/// to its fault, or all where they end within it. `OverBudget` is returned at the position of a header whose block has more samples
+/// than are left. Bytes that were made on purpose can have a header of a large block every few bytes, or of one that reads them all.
+/// So the time is linear in the bytes and the budget. A search from that position on, with a budget of at least 524,280, goes on.
 ///
 /// # Errors
 ///
-/// `OutOfMemory` alone, where memory for the samples of a block is refused.
+/// `OutOfMemory` alone, exactly where a request for the memory of a block was refused.
 pub fn find_frame(
-    alloc: Global,
+    memory: &mut BlockMemory,
     bytes: &[u8],
     from: usize,
     known: Option<StreamInfo>,
@@ -60,8 +62,9 @@ pub fn find_frame(
     ensures budget_is_spent { BudgetIsSpent known bytes.now from budget.old result budget.new }
     ensures out_of_memory_after_header { FindOutOfMemoryAfterHeader known bytes.now from
         budget.old result budget.new }
+    ensures memory_is_counted { MemoryIsCounted result memory.old memory.new }
 {
-    without_block(find(alloc, bytes, from, known, None, budget))
+    without_block(find(memory, bytes, from, known, None, budget))
 }
 
 // The same answer without the block.
@@ -92,15 +95,15 @@ pub(crate) enum HeaderThere {
 pub(crate) enum FrameThere {
     // The number of its bytes, and its block.
     Whole(usize, Block),
-    // There is none, whatever follows.
-    Faulty,
+    // There is none, whatever follows. The number of the bytes up to its fault.
+    Faulty(usize),
     // The bytes end within it.
     CutFrame,
 }
 
 // The first frame from this position on that has the streaminfo's format and, if one is asked for, this sample.
 pub(crate) fn find(
-    alloc: Global,
+    memory: &mut BlockMemory,
     bytes: &[u8],
     from: usize,
     known: Option<StreamInfo>,
@@ -110,6 +113,7 @@ pub(crate) fn find(
     requires { IfSome known (λ info. HasBitDepth info) }
     ensures gives { FindGives known sample bytes.now from budget.old (searched result) budget.new }
     ensures is_decoded { BlockIsDecoded known bytes.now result }
+    ensures memory_is_counted { MemoryIsCounted result memory.old memory.new }
 {
     let mut undecided = from.max(bytes.len());
     for position in from..bytes.len() {
@@ -128,13 +132,26 @@ pub(crate) fn find(
             return Ok(BlockSearch::OverBudget(position));
         }
         *budget -= samples;
-        match frame_at_start(alloc, rest, known, header)? {
+        let frame = frame_at_start(memory, rest, known, header)?;
+        *budget = (*budget).saturating_sub(wasted_bytes(&frame, rest.len()) as u64);
+        match frame {
             FrameThere::Whole(len, block) => return Ok(found_block(position, info, len, block)),
-            FrameThere::Faulty => continue,
+            FrameThere::Faulty(_) => continue,
             FrameThere::CutFrame => undecided = undecided.min(position),
         }
     }
     Ok(BlockSearch::NotFound(undecided))
+}
+
+// How many of so many bytes were read in vain.
+fn wasted_bytes(frame: &FrameThere, count: usize) -> usize
+    ensures { result ≡ wasted_by frame.now count }
+{
+    match frame {
+        FrameThere::Whole(_, _) => 0,
+        FrameThere::Faulty(len) => *len,
+        FrameThere::CutFrame => count,
+    }
 }
 
 fn found_block(position: usize, info: BlockInfo, len: usize, block: Block) -> BlockSearch
@@ -233,7 +250,7 @@ pub(crate) enum SampleThere {
 
 // The frame that the bytes begin with, if its block has the sample.
 pub(crate) fn sample_at_start(
-    alloc: Global,
+    memory: &mut BlockMemory,
     bytes: &[u8],
     known: Option<StreamInfo>,
     sample: u64,
@@ -246,7 +263,7 @@ pub(crate) fn sample_at_start(
         HeaderThere::NotWanted => return Ok(SampleThere::Absent),
         HeaderThere::CutHeader => return Ok(SampleThere::Undecided),
     };
-    let frame = frame_at_start(alloc, bytes, known, header)?;
+    let frame = frame_at_start(memory, bytes, known, header)?;
     Ok(sample_of(&frame, header.info()))
 }
 
@@ -256,14 +273,14 @@ fn sample_of(frame: &FrameThere, info: BlockInfo) -> SampleThere
 {
     match frame {
         FrameThere::Whole(_, _) => SampleThere::Held(info),
-        FrameThere::Faulty => SampleThere::Absent,
+        FrameThere::Faulty(_) => SampleThere::Absent,
         FrameThere::CutFrame => SampleThere::Undecided,
     }
 }
 
 // The frame whose header the bytes begin with.
 pub(crate) fn frame_at_start(
-    alloc: Global,
+    memory: &mut BlockMemory,
     bytes: &[u8],
     known: Option<StreamInfo>,
     header: HeaderInBytes,
@@ -271,13 +288,14 @@ pub(crate) fn frame_at_start(
     requires depth { IfSome known (λ info. HasBitDepth info) }
     requires is_there { HeaderIsThere (known_format known) bytes.now header }
     ensures is_at_start { FrameIsAtStart known bytes.now result }
+    ensures memory_is_counted { MemoryIsCounted result memory.old memory.new }
 {
     let mut len = 0;
-    match rest_at_start(alloc, bytes, known, header, &mut len) {
+    match rest_at_start(memory, bytes, known, header, &mut len) {
         Ok(block) => Ok(FrameThere::Whole(len, block)),
         Err(Error::IoError(_)) => Ok(FrameThere::CutFrame),
-        Err(Error::FormatError(_)) => Ok(FrameThere::Faulty),
-        Err(Error::Unsupported(_)) => Ok(FrameThere::Faulty),
+        Err(Error::FormatError(_)) => Ok(FrameThere::Faulty(len)),
+        Err(Error::Unsupported(_)) => Ok(FrameThere::Faulty(len)),
         Err(Error::OutOfMemory) => Err(Error::OutOfMemory),
     }
 }

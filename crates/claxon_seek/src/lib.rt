@@ -4,15 +4,15 @@
 mod at_start;
 mod find;
 mod likely;
+mod memory;
 mod reader;
 mod search;
 mod seeking;
-#[cfg(test)]
-mod tests;
 mod window;
 
 pub use at_start::{HeaderInBytes, block_at_start, head_at_start, header_at_start, rest_at_start};
 pub use find::find_frame;
+pub use memory::BlockMemory;
 pub use reader::SeekableReader;
 pub use search::{BlockSearch, FoundBlock, FoundFrame, Search};
 pub use seeking::{seek, seek_block};

@@ -2,7 +2,7 @@
 //!
 //! A false header or times out of order can mislead it, so nothing is promised of the position: `seek` reads the frame there.
 ghost use Rattle.std.specs.Prelude.{◌≡◌, ◌+◌, ◌≤◌, ◌<◌, IfSome, length};
-ghost use Rattle.claxon.specs.FlacReader.{HasBitDepth};
+ghost use Rattle.claxon.specs.ShownHead.{HasBitDepth};
 
 use crate::find::{HeaderThere, holds_sample, wanted_header};
 use crate::search::FoundFrame;

@@ -15,14 +15,12 @@ ghost use Rattle.claxon.specs.Error.{IsIo};
 ghost use Rattle.claxon.specs.ShownHead.{HasBitDepth};
 ghost use Rattle.claxon.specs.FrameReader.{stream_with};
 ghost use Rattle.claxon_format.specs.Tags.{values};
-ghost use Rattle.claxon_seek.specs.Attempt.{IsCut};
-
-#[cfg(test)]
-mod tests;
+ghost use Rattle.claxon_seek.specs.Attempt.{AnswerIsCut};
 
 use crate::at_start::block_in_buffer;
 use crate::find::{SampleThere, find, sample_at_start};
 use crate::likely::{MAX_STEPS, Span, Step, likely_header, max_block_size};
+use crate::memory::BlockMemory;
 use crate::search::{BlockSearch, FoundFrame};
 use crate::window::Window;
 use claxon::frame::{BlockInfo, FrameResult};
@@ -364,7 +362,8 @@ impl<R: Read + Seek> SeekableReader<R> {
         for _ in 0..MAX_ATTEMPTS {
             let is_full = self.window.fill(wanted)?;
             let known = Some(self.head.streaminfo());
-            match sample_at_start(self.alloc, self.window.pending(), known, sample)? {
+            let mut memory = BlockMemory::new(self.alloc);
+            match sample_at_start(&mut memory, self.window.pending(), known, sample)? {
                 SampleThere::Held(block) => return Ok(Some(block)),
                 SampleThere::Undecided if is_full => wanted = self.more_bytes(),
                 _ => return Ok(None),
@@ -404,7 +403,8 @@ impl<R: Read + Seek> SeekableReader<R> {
         let pending = self.window.pending();
         let len = pending.len();
         let known = Some(self.head.streaminfo());
-        let passed = match find(self.alloc, pending, 0, known, Some(sample), budget)? {
+        let mut memory = BlockMemory::new(self.alloc);
+        let passed = match find(&mut memory, pending, 0, known, Some(sample), budget)? {
             BlockSearch::Found(found) => {
                 self.window.pass(found.frame.position);
                 return Ok(Some(found.frame.block));
@@ -422,7 +422,7 @@ impl<R: Read + Seek> SeekableReader<R> {
 
 // Whether the bytes end within the frame, or before it.
 fn is_cut(found: &FrameResult) -> bool
-    ensures { IsTrue result → IsCut found.now }
+    ensures { IsTrue result → AnswerIsCut found.now }
 {
     match found {
         Ok(None) => true,

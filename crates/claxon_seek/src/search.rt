@@ -17,7 +17,7 @@ pub struct FoundFrame {
 pub enum Search {
     /// A frame.
     Found(FoundFrame),
-    /// There is none. More bytes can make one that begins at this position, or after it, but none before it.
+    /// There is none, and none begins before this position, whatever follows. There a header or a frame may be cut.
     NotFound(usize),
     /// The search stopped at this position, as the blocks of the headers up to it have more samples than the budget.
     OverBudget(usize),

@@ -1,23 +1,26 @@
 //! The frame with a sample.
-ghost use Rattle.std.specs.Prelude.{◌≡◌, ◌≤◌, IfSome, length};
-ghost use Rattle.claxon.specs.FlacReader.{HasBitDepth};
+ghost use Rattle.std.specs.Prelude.{◌≤◌, IfSome, length};
+ghost use Rattle.claxon.specs.ShownHead.{HasBitDepth};
+ghost use Rattle.claxon_seek.specs.BlockMemory.{MemoryIsCounted};
 ghost use Rattle.claxon_seek.specs.Seek.{
   SeekGives,
   SeekIsComplete,
   SeekIsSound,
   SeekNoneIsNotFound,
+  SeekNotFoundFitsBudget,
   SeekNotFoundIsNone,
   SeekOutOfMemoryAfterHeader,
   SeekStopsOverBudget,
+  SeekUndecidedIsFirst,
 };
 ghost use Rattle.claxon_seek.specs.SeekBlock.{BlockIsDecoded, BlockThere, searched};
 
 use crate::find::{FrameThere, HeaderThere, find, frame_at_start, wanted_header, without_block};
 use crate::likely::likely_position;
+use crate::memory::BlockMemory;
 use crate::search::{BlockSearch, FoundBlock, FoundFrame, Search};
 use claxon::Result;
 use claxon::metadata::StreamInfo;
-use std::alloc::Global;
 
 /// Finds a frame whose block has the sample: `time <= sample < time + duration`.
 ///
@@ -26,14 +29,15 @@ use std::alloc::Global;
 /// they don't lead to one, as in a damaged stream, all bytes are searched, and a frame is decoded where its header says that its
 /// block has the sample.
 ///
-/// `OverBudget` is returned where the blocks of such headers, in that search, have more samples than the budget. With `u64::MAX`
-/// it never is, but for bytes that were made on purpose the time can then be the square of their number.
+/// `OverBudget` is returned where such headers, in that search, pass the budget as in `find_frame`, and no frame with the sample
+/// begins up to the last of them. With `u64::MAX` it never is, but for bytes that were made on purpose the time can then be the
+/// square of their number.
 ///
 /// # Errors
 ///
-/// `OutOfMemory` alone, where memory for the samples of a block is refused.
+/// `OutOfMemory` alone, exactly where a request for the memory of a block was refused.
 pub fn seek(
-    alloc: Global,
+    memory: &mut BlockMemory,
     bytes: &[u8],
     known: Option<StreamInfo>,
     first_frame: usize,
@@ -47,21 +51,26 @@ pub fn seek(
         result }
     ensures none_is_not_found { SeekNoneIsNotFound known bytes.now first_frame sample budget
         result }
+    ensures undecided_is_first { SeekUndecidedIsFirst known bytes.now first_frame sample budget
+        result }
+    ensures not_found_fits_budget { SeekNotFoundFitsBudget known bytes.now first_frame sample
+        budget result }
     ensures stops_over_budget { SeekStopsOverBudget known bytes.now first_frame sample budget
         result }
     ensures out_of_memory_after_header { SeekOutOfMemoryAfterHeader known bytes.now first_frame
         sample budget result }
+    ensures memory_is_counted { MemoryIsCounted result memory.old memory.new }
 {
-    without_block(seek_exact(alloc, bytes, known, first_frame, sample, budget))
+    without_block(seek_exact(memory, bytes, known, first_frame, sample, budget))
 }
 
 /// As `seek`, and the block of the frame, which is decoded once.
 ///
 /// # Errors
 ///
-/// `OutOfMemory` alone, where memory for the samples of a block is refused.
+/// `OutOfMemory` alone, exactly where a request for the memory of a block was refused.
 pub fn seek_block(
-    alloc: Global,
+    memory: &mut BlockMemory,
     bytes: &[u8],
     known: Option<StreamInfo>,
     first_frame: usize,
@@ -77,17 +86,22 @@ pub fn seek_block(
         (searched result) }
     ensures none_is_not_found { SeekNoneIsNotFound known bytes.now first_frame sample budget
         (searched result) }
+    ensures undecided_is_first { SeekUndecidedIsFirst known bytes.now first_frame sample budget
+        (searched result) }
+    ensures not_found_fits_budget { SeekNotFoundFitsBudget known bytes.now first_frame sample
+        budget (searched result) }
     ensures stops_over_budget { SeekStopsOverBudget known bytes.now first_frame sample budget
         (searched result) }
     ensures out_of_memory_after_header { SeekOutOfMemoryAfterHeader known bytes.now first_frame
         sample budget (searched result) }
+    ensures memory_is_counted { MemoryIsCounted result memory.old memory.new }
 {
-    seek_exact(alloc, bytes, known, first_frame, sample, budget)
+    seek_exact(memory, bytes, known, first_frame, sample, budget)
 }
 
 // `seek_block`, with its exact clauses.
 fn seek_exact(
-    alloc: Global,
+    memory: &mut BlockMemory,
     bytes: &[u8],
     known: Option<StreamInfo>,
     first_frame: usize,
@@ -97,19 +111,46 @@ fn seek_exact(
     requires { IfSome known (λ info. HasBitDepth info) }
     ensures gives { SeekGives known bytes.now first_frame sample budget (searched result) }
     ensures is_decoded { BlockIsDecoded known bytes.now result }
+    ensures memory_is_counted { MemoryIsCounted result memory.old memory.new }
 {
     if let Some(position) = likely_position(bytes, known, first_frame, sample) {
-        if let Some(found) = block_there(alloc, bytes, known, position, sample)? {
+        if let Some(found) = block_there(memory, bytes, known, position, sample)? {
             return Ok(BlockSearch::Found(found));
         }
     }
+    search_all(memory, bytes, known, first_frame, sample, budget)
+}
+
+// The first frame with the sample from the first frame on. That of the header that is over budget is tried too, so that the budget
+// is of headers that begin no frame.
+fn search_all(
+    memory: &mut BlockMemory,
+    bytes: &[u8],
+    known: Option<StreamInfo>,
+    first_frame: usize,
+    sample: u64,
+    budget: u64,
+) -> Result<BlockSearch>
+    requires { IfSome known (λ info. HasBitDepth info) }
+    ensures gives { SeekGives known bytes.now first_frame sample budget (searched result) }
+    ensures is_decoded { BlockIsDecoded known bytes.now result }
+    ensures memory_is_counted { MemoryIsCounted result memory.old memory.new }
+{
     let mut left = budget;
-    find(alloc, bytes, first_frame, known, Some(sample), &mut left)
+    match find(memory, bytes, first_frame, known, Some(sample), &mut left)? {
+        BlockSearch::OverBudget(position) => {
+            match block_there(memory, bytes, known, position, sample)? {
+                Some(found) => Ok(BlockSearch::Found(found)),
+                None => Ok(BlockSearch::OverBudget(position)),
+            }
+        }
+        found => Ok(found),
+    }
 }
 
 // The frame that begins at the position, if its block has the sample.
 fn block_there(
-    alloc: Global,
+    memory: &mut BlockMemory,
     bytes: &[u8],
     known: Option<StreamInfo>,
     position: usize,
@@ -118,12 +159,13 @@ fn block_there(
     requires depth { IfSome known (λ info. HasBitDepth info) }
     requires inside { position ≤ length bytes.now }
     ensures there { BlockThere known bytes.now position sample result }
+    ensures memory_is_counted { MemoryIsCounted result memory.old memory.new }
 {
     let rest = &bytes[position..];
     let HeaderThere::Wanted(header) = wanted_header(rest, &known, Some(sample)) else {
         return Ok(None);
     };
-    match frame_at_start(alloc, rest, known, header)? {
+    match frame_at_start(memory, rest, known, header)? {
         FrameThere::Whole(len, block) => {
             let frame = FoundFrame {
                 position,
@@ -131,7 +173,7 @@ fn block_there(
             };
             Ok(Some(FoundBlock { frame, len, block }))
         }
-        FrameThere::Faulty => Ok(None),
+        FrameThere::Faulty(_) => Ok(None),
         FrameThere::CutFrame => Ok(None),
     }
 }

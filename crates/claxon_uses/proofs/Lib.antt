@@ -8,6 +8,8 @@ pub mod FirstSamples
 pub mod Opened
 -- A packet that has to be exactly one frame.
 pub mod Packets
+-- Pairs with CRC as bytes.
+pub mod PairWithCrc
 -- The greatest magnitude of samples, one more at a time.
 pub mod Peaks
 -- The tags of a stream whose head was read, or not.

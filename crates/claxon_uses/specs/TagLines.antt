@@ -20,12 +20,13 @@ use Rattle.std.specs.Prelude.{
 use Rattle.claxon.specs.Error.{IsFault}
 use Rattle.claxon.specs.Errors.{Error}
 use Rattle.claxon.specs.Fault.{Fault}
-use Rattle.claxon.specs.FlacReader.{comment_tags, flac_head}
+use Rattle.claxon.specs.FlacReader.{flac_head}
 use Rattle.claxon.specs.Heads.{Head, HeadCode, HeadFault, Options}
 use Rattle.claxon.specs.Opening.{IfKnown, IsMemoryOrIoError}
 use Rattle.claxon.specs.declared.reader.FlacReader.{FlacReader}
 use Rattle.claxon.specs.OtherErrors.{IfOtherErr}
 use Rattle.claxon.specs.Prefix.{BeginsWith}
+use Rattle.claxon.specs.ShownHead.{comment_tags}
 
 -- NAME=value; 0x3d is `=`
 abbrev pub tag_line : List ℕ × List ℕ → List ℕ

@@ -2,6 +2,7 @@
 #![tactic(auto)]
 
 mod blocks;
+mod crc_pair;
 mod frames;
 mod samples;
 mod streams;
@@ -10,6 +11,7 @@ mod tags;
 mod tests;
 
 pub use blocks::{block_peak, peak};
+pub use crc_pair::read_pair_with_crc;
 pub use frames::{decode_one, decode_packet};
 pub use samples::first_samples;
 pub use streams::decode_all;

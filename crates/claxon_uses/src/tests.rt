@@ -1,5 +1,5 @@
 //! The examples on streams in memory and in a file.
-use crate::{decode_one, first_samples, list_tags, peak};
+use crate::{decode_one, first_samples, list_tags, peak, read_pair_with_crc};
 use claxon::interleave::interleave;
 use std::alloc::Global;
 use std::io::Cursor;
@@ -99,6 +99,14 @@ fn of_a_file(rt: HostRuntime) -> Result<(), Fail> {
     assert!(rt; are_example_tags(&lines?));
     assert!(rt; greatest? == 5);
     Ok(())
+}
+
+// The second CRC is another one.
+#[test]
+fn a_pair_with_crc(rt: HostRuntime) {
+    let mut reader = Cursor::new([0xacu8, 0x04, 0x68, 0x11, 0xac, 0x04, 0x68, 0x10]);
+    assert!(rt; read_pair_with_crc(&mut reader).ok() == Some((21, 257)));
+    assert!(rt; read_pair_with_crc(&mut reader).is_err());
 }
 
 // The interleaved samples of a frame.

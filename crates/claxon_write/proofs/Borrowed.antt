@@ -37,7 +37,7 @@ unborrowed s = record s { source = record s.source { loans = rest_of s.source.lo
 module _ {X : Type 0} {a b : State X} where
   consumes_unborrowed : {P : List X → List X → Type 0} → Consumes a b P → Consumes (unborrowed a) (unborrowed b) P
   unfolding unborrowed
-  consumes_unborrowed h = record { errors = h.errors; empty_reads = h.empty_reads; loans = ap rest_of h.loans; known = λ t. let x = h.known t in record { known = x.known; is = x.is; rest = x.rest; crcs = x.crcs } }
+  consumes_unborrowed h = record { errors = h.errors; empty_reads = h.empty_reads; loans = ap rest_of h.loans; known = λ t. let x = h.known t in record { known = x.known; is = x.is; rest = x.rest; values = x.values } }
 
   failed_or_unborrowed : {P : Type 0} → ReadFailedOr a b P → ReadFailedOr (unborrowed a) (unborrowed b) P
   unfolding unborrowed
@@ -52,7 +52,7 @@ module _ {X : Type 0} {a b : State X} where
 
   eof_unborrowed : {k : ℕ} → ReachedEof k a b → ReachedEof k (unborrowed a) (unborrowed b)
   unfolding unborrowed
-  eof_unborrowed h = record { errors = h.errors; loans = ap rest_of h.loans; known = λ t. let x = h.known t in record { known = x.known; is = x.is; rest = x.rest; crcs = x.crcs } }
+  eof_unborrowed h = record { errors = h.errors; loans = ap rest_of h.loans; known = λ t. let x = h.known t in record { known = x.known; is = x.is; rest = x.rest; values = x.values } }
 
 module _ {X : Type 0} {a : State X} where
   remains_unborrowed : {xs : List X} → Remains a xs → Remains (unborrowed a) xs

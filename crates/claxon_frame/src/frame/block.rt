@@ -19,9 +19,6 @@ ghost use Rattle.claxon_frame.specs.Decorrelation.{remaining_pairs};
 use std::alloc::{Allocator, Global};
 use std::marker::Model;
 
-#[cfg(test)]
-mod tests;
-
 /// The samples of a frame: channels of equal length, and their time in the stream.
 #[derive(Drop)]
 pub struct Block<A: Allocator = Global> {

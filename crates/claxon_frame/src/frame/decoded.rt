@@ -4,9 +4,6 @@ use crate::frame::info::BlockInfo;
 use claxon_input::error::Result;
 use std::alloc::{Allocator, Global};
 
-#[cfg(test)]
-mod tests;
-
 /// A decoded frame: its block, and what its header says of it.
 #[derive(Drop)]
 pub struct DecodedFrame<A: Allocator = Global> {

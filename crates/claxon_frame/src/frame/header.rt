@@ -52,10 +52,6 @@ use claxon_input::crc::Crc8Reader;
 use claxon_input::error::{Error, Result};
 use claxon_input::input::ReadBytes;
 use parts::{BlockSize, BlockingStrategy, HeaderFields};
-
-#[cfg(test)]
-mod tests;
-
 pub use parts::{BlockTime, ChannelAssignment, FrameHeader, KnownStreamFormat};
 
 /// The text of the error where no frame begins, as its first two bytes tell.

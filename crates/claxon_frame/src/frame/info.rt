@@ -8,9 +8,6 @@ use crate::frame::started::read_started_or_eof;
 use claxon_input::error::Result;
 use claxon_input::input::ReadBytes;
 
-#[cfg(test)]
-mod tests;
-
 /// What the header of a frame says of its block.
 #[derive(Clone, Copy, Debug)]
 pub struct BlockInfo {

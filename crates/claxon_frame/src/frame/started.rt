@@ -10,9 +10,6 @@ use claxon_input::crc::Crc16Reader;
 use claxon_input::error::Result;
 use claxon_input::input::ReadBytes;
 
-#[cfg(test)]
-mod tests;
-
 /// A frame whose header was read. `FrameReader::read_rest` decodes the rest.
 #[derive(Clone, Copy)]
 pub struct StartedFrame {

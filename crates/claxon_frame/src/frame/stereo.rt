@@ -5,9 +5,6 @@ ghost use Rattle.claxon_frame.specs.Decorrelation.{ChannelsAreDecoded, PairIsDec
 
 use super::header::ChannelAssignment;
 
-#[cfg(test)]
-mod tests;
-
 /// Turns left/side, side/right or mid/side channels, one after the other in the buffer, into left and right. Independent
 /// channels stay as they are.
 pub fn undo_decorrelation(channel_assignment: ChannelAssignment, buffer: &mut [i32])

@@ -15,9 +15,6 @@ use high_order::predict_lpc_high_order;
 use low_order::predict_lpc_low_order;
 use pairs::predict_by_pairs;
 
-#[cfg(test)]
-mod tests;
-
 /// The samples of a linear predictor, from its warm-up samples, as many as it has coefficients, and the residual after them.
 /// The first coefficient is that of the newest sample; the call reverses them. (RFC 9639, section 9.2.6.)
 pub fn predict_lpc(coefficients: &mut [i16], shift: u32, buffer: &mut [i32])

@@ -13,9 +13,6 @@ use super::groups::{GroupCode, decode_by_groups};
 use claxon_input::error::Result;
 use claxon_input::input::{Bitstream, BufferedBits, ReadBytes};
 
-#[cfg(test)]
-mod tests;
-
 /// The Rice codes with this parameter: the quotient by 2^parameter in unary, as zeros and a one, then the remainder in
 /// `parameter` bits. The zigzag-encoded number is taken modulo 2^32.
 #[derive(Clone, Copy)]

@@ -1,4 +1,5 @@
 use Rattle.claxon_seek.specs.SeekBlock.{searched}
+use Rattle.claxon_seek.proofs.BlockMemories.{searched_counts}
 use Rattle.claxon_seek.proofs.FindCalls.{budget_is_spent, first_is_found, found_is_first, none_is_not_found, not_found_is_none, out_of_memory_after_header, stops_over_budget, undecided_is_first}
 use Rattle.claxon_seek.proofs.find.find_frame.Goals as goal
 
@@ -17,4 +18,5 @@ returns c =
       undecided_is_first = undecided_is_first a.known a.bytes.now a.from a.budget.now r left g;
       budget_is_spent = budget_is_spent a.known a.bytes.now a.from a.budget.now r left g;
       out_of_memory_after_header = out_of_memory_after_header a.known a.bytes.now a.from a.budget.now r left g;
+      memory_is_counted = searched_counts c.find.result c.find.ensures.memory_is_counted;
     })

@@ -1,7 +1,6 @@
 use Rattle.std.proofs.lemmas.Result.{err_from_is_err_and}
-use Rattle.claxon_seek.specs.SeekBlock.{searched}
+use Rattle.claxon_seek.proofs.BlockMemories.{error_counts, none_requested}
 use Rattle.claxon_seek.proofs.BlockSearches.{gives_there, memory_there}
-use Rattle.claxon_seek.proofs.FindCalls.{first_will_do}
 use Rattle.claxon_seek.proofs.seeking.seek_exact.Goals as goal
 
 -- headers lead to the frame
@@ -12,6 +11,7 @@ returns-in-Some-2 c =
     record {
       gives = gives_there a.known a.bytes.now c.in-Some.position a.sample a.first_frame a.budget (rw c.in-Some.is at c.likely_position.ensures.at_least) c.in-Some-2.found there;
       is_decoded = there.2;
+      memory_is_counted = none_requested _ (c.block_there.ensures.memory_is_counted.granted (λ m. let k = c.in_ok-found.was in cc)) (λ m. cc);
     }
 
 pub returns-in_err-found : goal.returns-in_err-found
@@ -20,10 +20,4 @@ returns-in_err-found c =
     let p = err_from_is_err_and c.from_residual.result c.from_residual.ensures.1 in
     let there = rw c.in_err-found.was at c.block_there.ensures.there in
     let gives = memory_there a.known a.bytes.now c.in-Some.position a.sample a.first_frame a.budget (rw c.in-Some.is at c.likely_position.ensures.at_least) c.in_err-found.field-0.0 there in
-    record { gives = rw (p.1, p.2) gives; is_decoded = rw p.1 tt }
-
--- a search of all bytes
-pub returns : goal.returns
-returns c =
-    let a = c.args in
-    record { gives = first_will_do a.known a.bytes.now a.first_frame a.sample a.budget (searched c.find.result) c.find.new.budget c.find.ensures.gives; is_decoded = c.find.ensures.is_decoded }
+    record { memory_is_counted = rw (p.1, p.2) (error_counts c.block_there.result c.in_err-found.field-0.0 c.in_err-found.was c.block_there.ensures.memory_is_counted); gives = rw (p.1, p.2) gives; is_decoded = rw p.1 tt }

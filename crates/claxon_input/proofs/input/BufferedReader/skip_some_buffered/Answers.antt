@@ -8,7 +8,7 @@ returns-clause-buffer_skips g c = (
   take c.min-count.result (drop c.args.self.now.pos c.args.self.now.buf.items),
   length-part c.args.self.now.buf.items c.args.self.now.pos c.min-count.result (grind (arith, common_steps)),
   record {
-    moved = record { front = advances (g.R.Read.remaining c.args.self.now.inner.inner) c.args.self.now.buf.items c.args.self.now.pos c.min-count.result c.args.self.now.num_valid _ refl (grind (arith, common_steps)); loans = refl; crcs = λ _ _. refl };
+    moved = record { front = advances (g.R.Read.remaining c.args.self.now.inner.inner) c.args.self.now.buf.items c.args.self.now.pos c.min-count.result c.args.self.now.num_valid _ refl (grind (arith, common_steps)); loans = refl; values = λ _ _. refl };
     errors = refl;
     empty_reads = refl;
   },
