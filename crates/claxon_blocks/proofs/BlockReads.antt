@@ -10,7 +10,7 @@ use Rattle.claxon.specs.Frame.{Frame, FrameBytesFault, StreamFormat}
 use Rattle.claxon.specs.FrameReader.{FrameAnswer, HeaderOfLargerBlock, ReadsFrame, block_view}
 use Rattle.claxon.specs.Gives.{ReadFailedIn, GivesOrEofOrOutOfMemory}
 use Rattle.claxon.specs.Promises.{Consumed, FaultIsSound, FoundIsSound, IsExcused, IsOutOfMemory, NoneIsEof}
-use Rattle.claxon.specs.State.{State, RemainingIsKnown, final_crcs, source_bytes}
+use Rattle.claxon.specs.State.{State, RemainingIsKnown, final_values, source_bytes}
 use Rattle.claxon.specs.read.Frame.{frame_bytes_at}
 use Rattle.claxon.specs.read.Reading.{Reading}
 use Rattle.claxon_blocks.specs.Frames.{IsNotWhole}
@@ -36,7 +36,7 @@ pub record BlockIsRead (stream : Option StreamFormat) (r : FrameAnswer) (old new
     pub kept :
         IfConsumed r (
         (new.source.errors ≡ old.source.errors) × (new.source.empty_reads ≡ old.source.empty_reads)
-        × (RemainingIsKnown old → final_crcs new ≡ final_crcs old))
+        × (RemainingIsKnown old → final_values new ≡ final_values old))
 
 -- whether the source failed
 pub decide_failed : {X : Type 0} (a b : State X) → ReadFailedIn a b ⊎ (ReadFailedIn a b → ⊥)
@@ -83,13 +83,13 @@ module _ (stream : Option StreamFormat) (a b : State ℕ) where
         )
   ]
 
-  block_kept : (r : FrameAnswer) (read : List ℕ → Reading ℕ _) → GivesOrEofOrOutOfMemory 2 block_view r read a b → IfConsumed r ((b.source.errors ≡ a.source.errors) × (b.source.empty_reads ≡ a.source.empty_reads) × (RemainingIsKnown a → final_crcs b ≡ final_crcs a))
-  block_kept (Ok (Some x)) read g = (g.errors, g.empty_reads, λ k. (g.known k).crcs)
+  block_kept : (r : FrameAnswer) (read : List ℕ → Reading ℕ _) → GivesOrEofOrOutOfMemory 2 block_view r read a b → IfConsumed r ((b.source.errors ≡ a.source.errors) × (b.source.empty_reads ≡ a.source.empty_reads) × (RemainingIsKnown a → final_values b ≡ final_values a))
+  block_kept (Ok (Some x)) read g = (g.errors, g.empty_reads, λ k. (g.known k).values)
   block_kept (Ok None) read g = tt
   block_kept (Err OutOfMemory) read g = tt
   block_kept (Err (IoError cause)) read g = tt
-  block_kept (Err (FormatError text)) read g = let w = g.fault refl in (w.errors, w.empty_reads, λ k. (w.known k).crcs)
-  block_kept (Err (Unsupported text)) read g = let w = g.fault refl in (w.errors, w.empty_reads, λ k. (w.known k).crcs)
+  block_kept (Err (FormatError text)) read g = let w = g.fault refl in (w.errors, w.empty_reads, λ k. (w.known k).values)
+  block_kept (Err (Unsupported text)) read g = let w = g.fault refl in (w.errors, w.empty_reads, λ k. (w.known k).values)
 
   block_eof : (r : FrameAnswer) → NoneIsEof 2 r a b → IfOk r (λ found. found ≡ None → RemainingIsKnown a → length a.remaining < 2)
   block_eof (Ok found) h = λ e known. (h e known).0

@@ -13,7 +13,7 @@ use Rattle.claxon.specs.Frame.{FrameBytesFault, StreamFormat}
 use Rattle.claxon.specs.FrameReader.{ReadsFrame}
 use Rattle.claxon.specs.Header.{bit_depth_reserved, says_32_bits}
 use Rattle.claxon.specs.Source.{Source}
-use Rattle.claxon.specs.State.{State, RemainingIsKnown, final_crcs}
+use Rattle.claxon.specs.State.{State, RemainingIsKnown, final_values}
 use Rattle.claxon.specs.RunningReader.{running_value}
 use Rattle.claxon.specs.RunningReaders.{RunningReader}
 use Rattle.claxon.specs.read.Bytes.{big_endian}
@@ -163,9 +163,9 @@ fault_not_memory (Unsupported text) f m = absurd cc
 fault_not_memory (IoError cause) f m = f
 fault_not_memory OutOfMemory f m = f
 
-kept : {stream : Option StreamFormat} (a b : State ℕ) (e : Error) (fault : Fault) → IsFault fault e → ReadsFrame stream (Err e) a b → RemainingIsKnown a → RemainingIsKnown b × (final_crcs b ≡ final_crcs a)
-kept a b (FormatError text) fault f h known = let k = (h.gives.fault refl).known known in (k.known, k.crcs)
-kept a b (Unsupported text) fault f h known = let k = (h.gives.fault refl).known known in (k.known, k.crcs)
+kept : {stream : Option StreamFormat} (a b : State ℕ) (e : Error) (fault : Fault) → IsFault fault e → ReadsFrame stream (Err e) a b → RemainingIsKnown a → RemainingIsKnown b × (final_values b ≡ final_values a)
+kept a b (FormatError text) fault f h known = let k = (h.gives.fault refl).known known in (k.known, k.values)
+kept a b (Unsupported text) fault f h known = let k = (h.gives.fault refl).known known in (k.known, k.values)
 kept a b (IoError cause) fault f h known = absurd f
 kept a b OutOfMemory fault f h known = absurd f
 

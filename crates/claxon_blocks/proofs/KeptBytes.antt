@@ -8,7 +8,7 @@ use Rattle.claxon.specs.Bits.{bits, bits_of, number}
 use Rattle.claxon.specs.RunningReader.{running_inner, running_source, running_value}
 use Rattle.claxon.specs.RunningReaders.{RunningReader}
 use Rattle.claxon.specs.Source.{IsKnown, Source}
-use Rattle.claxon.specs.State.{State, RemainingIsKnown, bytes_in, crcs_at_eof, final_crcs, remaining_as}
+use Rattle.claxon.specs.State.{State, RemainingIsKnown, bytes_in, values_at_eof, final_values, remaining_as}
 use Rattle.claxon.proofs.Bytes.{bits_of-append, byte_split, length-bits_of}
 use Rattle.claxon.proofs.Numbers.{bits-number}
 use Rattle.claxon_blocks.specs.FirstBytes.{AreFirst, count_of, kept_of, kept_with, number_of_bytes, update_first}
@@ -153,7 +153,7 @@ four_are_first y after before len h some =
 
 -- ---- after a call
 
-head_of : (p q : Option (List ℕ)) (f g : List ℕ → ℕ) (u v : List ℕ → List ℕ) → IsKnown p → IsKnown q → crcs_at_eof q (λ xs. g xs ∷ v xs) ≡ crcs_at_eof p (λ xs. f xs ∷ u xs) → g (remaining_as (λ all. all) q) ≡ f (remaining_as (λ all. all) p)
+head_of : (p q : Option (List ℕ)) (f g : List ℕ → ℕ) (u v : List ℕ → List ℕ) → IsKnown p → IsKnown q → values_at_eof q (λ xs. g xs ∷ v xs) ≡ values_at_eof p (λ xs. f xs ∷ u xs) → g (remaining_as (λ all. all) q) ≡ f (remaining_as (λ all. all) p)
 head_of None q f g u v k l e = absurd k
 head_of (Some all) None f g u v k l e = absurd l
 head_of (Some all) (Some rest) f g u v k l e =
@@ -168,13 +168,13 @@ module _ {R : Type 0} (source : R → Source ℕ) (x y : RunningReader R FirstBy
   abbrev pub after : State ℕ
   after = bytes_in (running_source source update_first) y
 
-  updated : RemainingIsKnown before → RemainingIsKnown after → final_crcs after ≡ final_crcs before → update_first (running_value y) after.remaining ≡ update_first (running_value x) before.remaining
+  updated : RemainingIsKnown before → RemainingIsKnown after → final_values after ≡ final_values before → update_first (running_value y) after.remaining ≡ update_first (running_value x) before.remaining
   unfolding bytes_in
-  updated k l crcs =
+  updated k l values =
       let a = source (running_inner x) in
       let b = source (running_inner y) in
-      head_of a.remaining b.remaining (update_first (running_value x)) (update_first (running_value y)) a.crcs b.crcs k l crcs
+      head_of a.remaining b.remaining (update_first (running_value x)) (update_first (running_value y)) a.values b.values k l values
 
   -- where the CRCs were updated, the first 16 bytes are kept
-  pub keeps_first : running_value x ≡ record { seen = 0; bytes = replicate 16 0; others = 0 } → RemainingIsKnown before → RemainingIsKnown after → final_crcs after ≡ final_crcs before → Keeps (running_value y) after.remaining before.remaining
-  keeps_first start k l crcs = keeps (running_value y) after.remaining before.remaining (updated k l crcs ∙ ap (λ (s : FirstBytes). update_first s before.remaining) start)
+  pub keeps_first : running_value x ≡ record { seen = 0; bytes = replicate 16 0; others = 0 } → RemainingIsKnown before → RemainingIsKnown after → final_values after ≡ final_values before → Keeps (running_value y) after.remaining before.remaining
+  keeps_first start k l values = keeps (running_value y) after.remaining before.remaining (updated k l values ∙ ap (λ (s : FirstBytes). update_first s before.remaining) start)

@@ -7,5 +7,7 @@ pub mod ReadsBelow
 pub mod KeptBytes
 -- The fault of a frame whose header has the bit depth code for 32 bits, and the bytes that say so.
 pub mod FirstBytes
+-- Whether all elements so far satisfy a predicate.
+pub mod SamplesFit
 -- The interleaved samples of blocks, which are hashed one range after another.
 pub mod HashedBlocks

@@ -26,7 +26,12 @@ use Rattle.claxon.specs.Error.{IsFault}
 use Rattle.claxon.specs.Errors.{Error}
 use Rattle.claxon.specs.Fault.{BitDepthReserved, Fault}
 use Rattle.claxon.specs.Frame.{Frame, FrameBytesFault, StreamFormat}
-use Rattle.claxon.specs.FrameReader.{FrameAnswer, ReadsFrame, stream_with}
+use Rattle.claxon.specs.FrameReader.{
+  FrameAnswer,
+  OutOfMemoryBeyondCapacity,
+  ReadsFrame,
+  stream_with,
+}
 use Rattle.claxon.specs.Header.{says_32_bits}
 use Rattle.claxon.specs.Prefix.{BeginsWith}
 use Rattle.claxon.specs.Promises.{Consumed, HasNeither}
@@ -115,3 +120,18 @@ module _ {R : Type 0} (source : R → Source ℕ) (info : StreamInfo) (old : R) 
       → Type 0
   StreamFrameHasHeader result new =
       HasHeader (Some (stream_with info)) result (bytes_in source old) (bytes_in source new)
+
+  -- `OutOfMemory` is returned only if just a header was consumed, whose block has more samples than
+  -- this capacity.
+  abbrev pub StreamFrameOutOfMemoryAfterHeader : {A : Type 0} → ℕ
+      → Result (Option (DecodedFrame A)) FrameError → R → Type 0
+  StreamFrameOutOfMemoryAfterHeader capacity result new =
+      OutOfMemoryBeyondCapacity (Some (stream_with info)) capacity
+      (decoder_answer frame_block result) (bytes_in source old) (bytes_in source new)
+
+  -- the same, where the block itself is returned
+  abbrev pub StreamBlockOutOfMemoryAfterHeader : ℕ → Result (Option BlockValue) FrameError → R
+      → Type 0
+  StreamBlockOutOfMemoryAfterHeader capacity result new =
+      OutOfMemoryBeyondCapacity (Some (stream_with info)) capacity (answer_of result)
+      (bytes_in source old) (bytes_in source new)

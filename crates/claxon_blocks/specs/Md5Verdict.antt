@@ -34,3 +34,8 @@ abbrev pub Md5IsJudged : Streaminfo → Option Md5 → Md5Verdict → Type 0
 Md5IsJudged info None verdict = verdict ≡ NotComputed
 Md5IsJudged info (Some hasher) verdict = (xs : List ℕ) → HasHashed hasher xs
     → IsMd5Verdict info xs verdict
+
+-- The MD5 sum of what was hashed.
+abbrev pub Md5IsShown : Option Md5 → Option (List ℕ) → Type 0
+Md5IsShown None shown = shown ≡ None
+Md5IsShown (Some hasher) shown = (xs : List ℕ) → HasHashed hasher xs → shown ≡ Some (md5 xs)

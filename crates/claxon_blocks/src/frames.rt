@@ -1,9 +1,15 @@
 //! Reading frames: their blocks, what their headers say, and whether one is refused because its samples have 32 bits.
-ghost use Rattle.std.specs.Prelude.{◌≡◌, ◌≤◌, ◌↔◌, IsTrue, Some};
+ghost use Rattle.std.specs.Prelude.{◌≡◌, ◌≤◌, ◌↔◌, IsTrue, Some, vec_capacity};
 ghost use Rattle.claxon.specs.DecodedFrame.{FrameWithHeader, decoded_view, frame_answer};
 ghost use Rattle.claxon.specs.Error.{IsFault};
 ghost use Rattle.claxon.specs.Fault.{BitDepthReserved};
-ghost use Rattle.claxon.specs.FrameReader.{BlockHasSamples, ReadsFrame, stream_with};
+ghost use Rattle.claxon.specs.FrameReader.{
+  BlockHasSamples,
+  BlockKeepsCapacity,
+  OutOfMemoryBeyondCapacity,
+  ReadsFrame,
+  stream_with,
+};
 ghost use Rattle.claxon.specs.Header.{says_32_bits};
 ghost use Rattle.claxon.specs.Promises.{FoundIsSound};
 ghost use Rattle.claxon.specs.State.{bytes_in};
@@ -11,8 +17,10 @@ ghost use Rattle.claxon_blocks.specs.Frames.{
   FourSay32Bits,
   KeepsFirstBytes,
   StreamBlockIsRead,
+  StreamBlockOutOfMemoryAfterHeader,
   StreamFrameHasHeader,
   StreamFrameIsRead,
+  StreamFrameOutOfMemoryAfterHeader,
   TellsOf32Bits,
   answer_of,
   decoder_answer,
@@ -60,6 +68,10 @@ pub fn read_frame<R: ReadBytes, A: Allocator>(
     ensures keeps_first_bytes { KeepsFirstBytes result
         (bytes_in R.source input.old) (bytes_in R.source input.new) }
     ensures has_samples { BlockHasSamples (decoder_answer frame_block result) }
+    ensures out_of_memory_after_header { StreamFrameOutOfMemoryAfterHeader R.source info
+        input.old (vec_capacity buffer) result input.new }
+    ensures keeps_capacity { BlockKeepsCapacity (vec_capacity buffer)
+        (decoder_answer frame_block result) }
 {
     let mut input = RunningReader::new(input);
     let found = read_from(&mut input, info, buffer);
@@ -90,6 +102,9 @@ pub fn read_block<R: ReadBytes, A: Allocator>(
     ensures keeps_first_bytes { KeepsFirstBytes result
         (bytes_in R.source input.old) (bytes_in R.source input.new) }
     ensures has_samples { BlockHasSamples (answer_of result) }
+    ensures out_of_memory_after_header { StreamBlockOutOfMemoryAfterHeader R.source info
+        input.old (vec_capacity buffer) result input.new }
+    ensures keeps_capacity { BlockKeepsCapacity (vec_capacity buffer) (answer_of result) }
 {
     match read_frame(input, info, buffer)? {
         Some(frame) => Ok(Some(frame.block)),
@@ -112,6 +127,10 @@ fn read_from<R: ReadBytes, A: Allocator>(
     ensures is_sound { FoundIsSound decoded_view result (FrameWithHeader (Some (stream_with info)))
         (bytes_in R.source input.old) (bytes_in R.source input.new) }
     ensures has_samples { BlockHasSamples (frame_answer result) }
+    ensures out_of_memory_after_header { OutOfMemoryBeyondCapacity (Some (stream_with info))
+        (vec_capacity buffer) (frame_answer result)
+        (bytes_in R.source input.old) (bytes_in R.source input.new) }
+    ensures keeps_capacity { BlockKeepsCapacity (vec_capacity buffer) (frame_answer result) }
 {
     let mut frames = FrameReader::with_streaminfo(input, info);
     frames.read_next_with_info_or_eof(buffer)

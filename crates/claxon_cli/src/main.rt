@@ -1,14 +1,23 @@
 //! Shows, converts, verifies and traces FLAC files.
 #![tactic(auto)]
 
-use claxon_command_line::run_command;
+use claxon_command_line::arguments::all_words;
+use claxon_command_line::status;
 use claxon_commands::command;
 use std::io::IsTerminal;
 use std::process::ExitCode;
 
 fn main(rt: HostRuntime) -> ExitCode {
-    let shows_progress = rt.stderr().is_terminal();
-    run_command(&rt, &mut rt.stderr(), |words, errors| {
-        command(&rt, words, rt.stdin(), rt.stdout(), shows_progress, errors)
+    let (mut errors, shows_progress) = (rt.stderr(), rt.stderr().is_terminal());
+    ExitCode::from(match all_words(&rt) {
+        Ok(words) => command(
+            &rt,
+            words.as_slice(),
+            rt.stdin(),
+            rt.stdout(),
+            shows_progress,
+            &mut errors,
+        ),
+        Err(error) => status(Err(error), &mut errors),
     })
 }

@@ -26,7 +26,7 @@ takes_both {a} {b} {c} {xs} {ys} h k = record {
   moved = record {
     front = front_both a.remaining b.remaining c.remaining xs ys h.moved.front k.moved.front;
     loans = k.moved.loans ∙ h.moved.loans;
-    crcs = λ known zs. k.moved.crcs (known_after a.remaining b.remaining xs h.moved.front known) zs ∙ h.moved.crcs known (ys ++ zs) ∙ ap a.crcs (sym (append_assoc xs ys zs));
+    values = λ known zs. k.moved.values (known_after a.remaining b.remaining xs h.moved.front known) zs ∙ h.moved.values known (ys ++ zs) ∙ ap a.values (sym (append_assoc xs ys zs));
   };
   errors = k.errors ∙ h.errors;
   empty_reads = k.empty_reads ∙ h.empty_reads;
@@ -43,7 +43,7 @@ module _ {A : Type 0} (source : A → Source ℕ) (a : A) where
   none_so_far = record {
     bytes = [];
     begins = record { empty_names = 0; bytes_are = refl; has_no_zero = All-nil (λ b. b ≡ 0 → ⊥) };
-    taken = record { moved = record { front = front_none (source a).remaining; loans = refl; crcs = λ _ _. refl }; errors = refl; empty_reads = refl };
+    taken = record { moved = record { front = front_none (source a).remaining; loans = refl; values = λ _ _. refl }; errors = refl; empty_reads = refl };
   }
 
   -- one empty name more

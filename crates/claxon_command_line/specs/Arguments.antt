@@ -98,12 +98,20 @@ operands_total operands = operands.count
 abbrev pub ParseIsSound : Result Operands Notice → Type 0
 ParseIsSound r = IfOk r (λ operands. 1 ≤ operands_total operands)
 
--- `--help` and `--version` are options of each command, and any other is unknown.
+-- `-h` or `--help`
+abbrev pub AsksForHelp : List ℕ → Type 0
+AsksForHelp option = (option ≡ codes "-h") ⊎ (option ≡ codes "--help")
+
+-- `-V` or `--version`
+abbrev pub AsksForVersion : List ℕ → Type 0
+AsksForVersion option = (option ≡ codes "-V") ⊎ (option ≡ codes "--version")
+
+-- These are options of each command, and any other is unknown.
 abbrev pub IsNoticeOf : List ℕ → Notice → Type 0
-IsNoticeOf option Help = option ≡ codes "--help"
-IsNoticeOf option Version = option ≡ codes "--version"
+IsNoticeOf option Help = AsksForHelp option
+IsNoticeOf option Version = AsksForVersion option
 IsNoticeOf option (UnknownOption name) =
-    (name.now ≡ option) × (option ≡ codes "--help" → ⊥) × (option ≡ codes "--version" → ⊥)
+    (name.now ≡ option) × (AsksForHelp option → ⊥) × (AsksForVersion option → ⊥)
 IsNoticeOf option (UnknownCommand name) = ⊥
 IsNoticeOf option NotUtf8 = ⊥
 IsNoticeOf option Usage = ⊥

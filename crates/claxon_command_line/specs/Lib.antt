@@ -3,4 +3,6 @@ pub mod Progress
 pub mod Text
 pub mod Json
 pub mod Names
+pub mod Input
+pub mod Folders
 pub mod Messages

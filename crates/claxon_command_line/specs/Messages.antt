@@ -1,4 +1,4 @@
--- The input of a command, and lines about what failed.
+-- Lines about what failed.
 use Rattle.std.specs.Prelude.{
   ◌≡◌,
   List,
@@ -6,7 +6,6 @@ use Rattle.std.specs.Prelude.{
   codes,
   ℕ,
   Result,
-  IfOk,
   IfSome,
 }
 use Rattle.std.specs.declared.alloc.AllocError.{AllocError}
@@ -18,20 +17,9 @@ use Rattle.claxon_input.specs.Error.{error_text}
 use Rattle.claxon_input.specs.declared.error.Error.{Error}
 use Rattle.claxon_input.specs.declared.error.Error.TheVariants.{IoError}
 use Rattle.claxon_command_line.specs.Text.{IsText}
-use Rattle.claxon_command_line.specs.declared.input.Input.{Input}
-use Rattle.claxon_command_line.specs.declared.input.Input.TheVariants.{File, Standard}
 use Rattle.claxon_command_line.specs.declared.input.TheConstants.{STANDARD}
 use Rattle.claxon_command_line.specs.declared.messages.Part.{Part}
 use Rattle.claxon_command_line.specs.declared.messages.Part.TheVariants.{Frame, Head, Output}
-
--- `-` opens standard input, and any other name a file.
-abbrev pub IsInputOf : {F I : Type 0} → List ℕ → I → Input F I → Type 0
-IsInputOf name standard (File file) = name ≡ STANDARD.now → ⊥
-IsInputOf name standard (Standard input) = (name ≡ STANDARD.now) × (input ≡ standard)
-
--- An Ok is that input.
-abbrev pub OpensInput : {F I : Type 0} → List ℕ → I → Result (Input F I) Failure → Type 0
-OpensInput name standard r = IfOk r (IsInputOf name standard)
 
 -- what `-` stands for
 abbrev pub standard_name : Part → List ℕ

@@ -19,12 +19,21 @@ use Rattle.std.specs.Prelude.{
   if◌then◌else◌,
   drop,
   flat_map,
+  get_or,
   length,
   replicate,
+  string_bytes,
   take,
+  IsUtf8,
+  Option,
+  None,
+  Some,
   Result,
   IfOk,
 }
+use Rattle.std.specs.Borrow.{Bor}
+use Rattle.std.specs.declared.alloc.AllocError.{AllocError}
+use Rattle.std.specs.declared.string.String.{String}
 use Rattle.std.specs.Str.Lossy.{after_first_chunk, utf8_invalid_len, utf8_valid_len}
 use Rattle.claxon_input.specs.Source.{MeetsEof, Source, Takes}
 use Rattle.claxon_command_line.specs.Text.{escaped_text, hex_byte}
@@ -83,3 +92,17 @@ escaped_within (suc k) name = let n = utf8_valid_len name in
 -- the same for all its parts
 unfoldable pub escaped_bytes : List ℕ → List ℕ
 escaped_bytes name = escaped_within (length name) name
+
+-- An argument that is UTF-8 is the word itself. Any other one is shown after a zero byte.
+pub record IsWordOf (argument word : List ℕ) : Type 0 where
+  pub utf8 : IsUtf8 argument → word ≡ argument
+  pub other : (IsUtf8 argument → ⊥) → word ≡ 0 ∷ escaped_bytes argument
+
+-- An Ok is that word.
+abbrev pub WordIsSound : {A : Type 0} → List ℕ → Result (String A) AllocError → Type 0
+WordIsSound argument r = IfOk r (λ word. IsWordOf argument (string_bytes word))
+
+-- What stands after the zero byte that a word begins with; None says that it begins with none.
+abbrev pub NotUtf8NameIs : List ℕ → Option (Bor (List ℕ)) → Type 0
+NotUtf8NameIs word None = get_or word 0 1 ≢ 0
+NotUtf8NameIs word (Some name) = word ≡ 0 ∷ name.now

@@ -2,8 +2,10 @@
 ghost use Rattle.std.specs.Prelude.{◌≡◌, ◌≤◌, IsOkUnless};
 ghost use Rattle.claxon_input.specs.declared.error.Error.TheVariants.{OutOfMemory};
 
+use crate::names::word_of;
 use claxon_input::error::{Error, Result};
 use std::alloc::Alloc;
+use std::env::FillError;
 use std::io::ErrorKind;
 use std::rt::Env;
 use std::{env, result};
@@ -21,6 +23,44 @@ pub fn words<Q: Env + Alloc>(rt: &Q) -> Result<Option<Vec<String<Q::A>, Q::A>>>
         Err(error) if error.kind() == ErrorKind::InvalidData => Ok(None),
         Err(_) => Err(Error::OutOfMemory),
     }
+}
+
+/// The arguments after the program's name, each as `word_of` has it.
+///
+/// # Errors
+///
+/// Only `OutOfMemory`.
+pub fn all_words<Q: Env + AllocGlobal>(rt: &Q) -> Result<Vec<String>>
+    ensures { IsOkUnless result OutOfMemory }
+{
+    let mut words = Vec::new(rt.alloc());
+    for index in 1..usize::MAX {
+        let Some(argument) = argument_bytes(rt, index)? else {
+            break;
+        };
+        words.push(word_of(rt.alloc(), argument.as_slice())?)?;
+    }
+    Ok(words)
+}
+
+// The bytes of an argument, or None if there are no more.
+fn argument_bytes<Q: Env + AllocGlobal>(rt: &Q, index: usize) -> Result<Option<Vec<u8>>>
+    ensures { IsOkUnless result OutOfMemory }
+{
+    let mut size = 256usize;
+    for _ in 0..usize::BITS {
+        let mut bytes = Vec::new(rt.alloc());
+        bytes.resize(size, 0u8)?;
+        match rt.arg(index, bytes.as_mut_slice()) {
+            Ok(length) => {
+                bytes.truncate(length);
+                return Ok(Some(bytes));
+            }
+            Err(FillError::NotPresent) => return Ok(None),
+            Err(FillError::TooLong) => size = size.saturating_mul(2),
+        }
+    }
+    Err(Error::OutOfMemory)
 }
 
 /// An argument.
@@ -101,10 +141,10 @@ impl<'a> Arguments<'a> {
 
 /// What is printed in place of work.
 pub enum Notice<'a> {
-    /// What it does, its arguments and its statuses, for `--help`.
+    /// What it does, its arguments and its statuses, for `-h` and `--help`.
     Help,
 
-    /// The version of the product, for `--version`.
+    /// The version of the product, for `-V` and `--version`.
     Version,
 
     /// The usage line, after the name of an option that there isn't.
@@ -127,10 +167,10 @@ impl<'a> Notice<'a> {
     pub fn of_option(option: &'a str) -> Notice<'a>
         ensures is_notice_of { IsNoticeOf option.now result }
     {
-        if option == "--help" {
+        if matches!(option, "-h" | "--help") {
             return Notice::Help;
         }
-        if option == "--version" {
+        if matches!(option, "-V" | "--version") {
             return Notice::Version;
         }
         Notice::UnknownOption(option)

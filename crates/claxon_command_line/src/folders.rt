@@ -1,4 +1,7 @@
 //! What lies in a folder.
+ghost use Rattle.std.specs.Prelude.{◌↔◌, IsTrue};
+ghost use Rattle.claxon_command_line.specs.Folders.{IsFlacName};
+
 use crate::names::read_name;
 use claxon_input::error::Result;
 use claxon_input::input::BufferedReader;
@@ -20,6 +23,22 @@ pub fn is_real_folder<Q: Files>(rt: &Q, name: &str) -> bool {
         Ok(metadata) => metadata.is_dir(),
         Err(_) => false,
     }
+}
+
+/// Whether this is the name of what holds no bytes of its own, as a pipe, a device or a folder, or of a symbolic link to it.
+pub fn is_no_file<Q: Files>(rt: &Q, name: &str) -> bool {
+    match fs::metadata(rt, name) {
+        Ok(metadata) => !metadata.is_file(),
+        Err(_) => false,
+    }
+}
+
+/// Whether a name ends with `.flac`, in letters of either case.
+pub fn is_flac_name(name: &str) -> bool
+    ensures { IsTrue result ↔ IsFlacName name.now }
+{
+    let name = name.as_bytes();
+    name[name.len().saturating_sub(5)..].eq_ignore_ascii_case(b".flac")
 }
 
 /// Adds the paths of what lies in a folder, so that they are taken from the end in order of their names.

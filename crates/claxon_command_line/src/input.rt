@@ -1,5 +1,5 @@
 //! The input of a command: a file, or standard input.
-ghost use Rattle.claxon_command_line.specs.Messages.{OpensInput};
+ghost use Rattle.claxon_command_line.specs.Input.{OpensInput, input_remaining};
 
 use std::fs;
 use std::io::{self, Read};
@@ -19,6 +19,8 @@ pub enum Input<F, I> {
 }
 
 impl<F: Read, I: Read> Read for Input<F, I> {
+    ghost remaining = { input_remaining F.remaining I.remaining };
+
     fn read(&mut self, buf: &mut [u8]) -> io::Result<usize> {
         match self {
             Input::File(file) => file.read(buf),

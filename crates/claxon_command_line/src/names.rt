@@ -1,12 +1,18 @@
 //! Names that end with a zero byte, as `find -print0` writes them.
-ghost use Rattle.claxon_command_line.specs.Names.{ReadNameIsSound, escaped_bytes, hex_escapes};
+ghost use Rattle.claxon_command_line.specs.Names.{
+  NotUtf8NameIs,
+  ReadNameIsSound,
+  WordIsSound,
+  escaped_bytes,
+  hex_escapes,
+};
 ghost use Rattle.claxon_command_line.specs.Text.{Adds, IsText};
 
 use crate::text::escaped_text;
 use claxon_input::error::{Error, Result};
 use claxon_input::input::ReadBytes;
-use std::alloc::{AllocError, Allocator};
-use std::result;
+use std::alloc::{AllocError, Allocator, Global};
+use std::{result, str};
 
 /// Reads the next name that isn't empty in place of what `name` holds, and returns true, or false at the end of the input. The
 /// last name may lack its zero byte.
@@ -45,6 +51,26 @@ pub fn escaped_bytes<A: Allocator + Copy>(
         push_hex_escapes(&mut text, chunk.invalid())?;
     }
     Ok(text)
+}
+
+/// An argument as a word of text. One that isn't UTF-8 becomes a zero byte, which no argument has, and its bytes as
+/// `escaped_bytes` has them.
+pub fn word_of(alloc: Global, argument: &[u8]) -> result::Result<String, AllocError>
+    ensures is_word { WordIsSound argument.now result }
+{
+    if let Ok(text) = str::from_utf8(argument) {
+        return String::from_str(alloc, text);
+    }
+    let mut word = String::from_str(alloc, "\0")?;
+    word.push_str(escaped_bytes(alloc, argument)?.as_str())?;
+    Ok(word)
+}
+
+/// How an argument that isn't UTF-8 is shown, or None of the word of another one.
+pub fn not_utf8_name(word: &str) -> Option<&str>
+    ensures name_is { NotUtf8NameIs word.now result }
+{
+    word.strip_prefix("\0")
 }
 
 fn push_hex_escapes<A: Allocator>(

@@ -5,7 +5,7 @@ use crate::text::escaped_text;
 use std::alloc::{AllocError, Global};
 use std::io::Write;
 
-/// A line `12 of 300  song.flac  57 %`: a label, and the percentage of samples of a file that are done. It is written again
+/// A line `57 %  12 of 300  song.flac`: the percentage of samples of a file that are done, and a label. It is written again
 /// when that changes. `end` or `clear` has to be called.
 pub struct Progress<'e, 'l, E> {
     errors: &'e mut E,
@@ -25,7 +25,7 @@ impl<'e, 'l, E: Write> Progress<'e, 'l, E> {
       WritesOnlyChanges,
     };
 
-    /// A line on `errors` that isn't written yet, and begins with this label. Without one it never is.
+    /// A line on `errors` that isn't written yet, and ends with this label. Without one it never is.
     pub fn new(errors: &'e mut E, label: Option<&'l str>) -> Progress<'e, 'l, E>
         ensures is_new_progress { IsNewProgress errors.entry label.entry result }
     {
@@ -57,7 +57,7 @@ impl<'e, 'l, E: Write> Progress<'e, 'l, E> {
         let percent = (done.saturating_mul(100) / total.max(1)).min(100);
         if self.percent != Some(percent) {
             self.percent = Some(percent);
-            let _ = write!(self.errors, "\r{label}{percent} %");
+            let _ = write!(self.errors, "\r{percent} %{label}");
         }
     }
 
@@ -106,21 +106,80 @@ pub struct Position {
     pub total: Option<u64>,
 }
 
-/// What a line begins with: `12 of 300  song.flac  `, or `12  song.flac  ` where the total isn't known, or `song.flac  ` of the
-/// only file. The name is on one line, as `escaped_text` has it, and just its last 50 characters are there.
+// How many columns a line takes at most, as even small terminals have them.
+const MOST_COLUMNS: usize = 79;
+
+// How many of them a name takes at most.
+const MOST_OF_NAME: usize = 50;
+
+/// What stands after the percentage: `  12 of 300  song.flac`, or `  12  song.flac` where the total isn't known, or
+/// `  song.flac` of the only file. The name is on one line, as `escaped_text` has it, and of a long one just the end is there.
+/// A terminal with fewer columns cuts the line off, and doesn't begin another one.
 pub fn file_label(alloc: Global, position: Position, name: &str) -> Result<String, AllocError> {
     let escaped = escaped_text(alloc, name)?;
-    let name = last_characters(alloc, escaped.as_str(), 50)?;
+    let before = position_text(alloc, position)?;
+    // The percentage takes up to five.
+    let left = MOST_COLUMNS.saturating_sub(before.len().saturating_add(7));
+    let name = last_columns(alloc, escaped.as_str(), left.min(MOST_OF_NAME))?;
+    format!(in alloc; "\x1b[?7l  {before}{name}\x1b[?7h")
+}
+
+fn position_text(alloc: Global, position: Position) -> Result<String, AllocError> {
     let number = position.number;
     match position.total {
-        Some(1) => format!(in alloc; "{name}  "),
-        Some(total) => format!(in alloc; "{number} of {total}  {name}  "),
-        None => format!(in alloc; "{number}  {name}  "),
+        Some(1) => Ok(String::new(alloc)),
+        Some(total) => format!(in alloc; "{number} of {total}  "),
+        None => format!(in alloc; "{number}  "),
     }
 }
 
-// The last characters of a text: at most so many.
-fn last_characters(alloc: Global, text: &str, most: usize) -> Result<String, AllocError> {
-    let total = text.chars().count();
-    text.chars().skip(total.saturating_sub(most)).collect(alloc)
+// The end of a text, which takes at most so many columns of a terminal.
+fn last_columns(alloc: Global, text: &str, most: usize) -> Result<String, AllocError> {
+    let mut left = columns(text);
+    let mut end = String::new(alloc);
+    for c in text.chars() {
+        if left > most {
+            left = left.saturating_sub(width(c));
+        } else {
+            end.push(c)?;
+        }
+    }
+    Ok(end)
+}
+
+fn columns(text: &str) -> usize {
+    let mut columns = 0usize;
+    for c in text.chars() {
+        columns = columns.saturating_add(width(c));
+    }
+    columns
+}
+
+// Wide letters and symbols of Unicode's East Asian Width. A character that takes no column counts as one.
+const WIDE: [(char, char); 15] = [
+    ('\u{1100}', '\u{115f}'),
+    ('\u{231a}', '\u{231b}'),
+    ('\u{2329}', '\u{232a}'),
+    ('\u{23e9}', '\u{23f3}'),
+    ('\u{25fd}', '\u{2b55}'),
+    ('\u{2e80}', '\u{303e}'),
+    ('\u{3041}', '\u{a4cf}'),
+    ('\u{a960}', '\u{a97c}'),
+    ('\u{ac00}', '\u{d7a3}'),
+    ('\u{f900}', '\u{faff}'),
+    ('\u{fe10}', '\u{fe19}'),
+    ('\u{fe30}', '\u{fe6f}'),
+    ('\u{ff01}', '\u{ff60}'),
+    ('\u{ffe0}', '\u{ffe6}'),
+    ('\u{16fe0}', '\u{3fffd}'),
+];
+
+// How many columns of a terminal a character takes at most.
+fn width(c: char) -> usize {
+    for (first, last) in WIDE {
+        if first <= c && c <= last {
+            return 2;
+        }
+    }
+    1
 }

@@ -3,15 +3,13 @@ use claxon_commands::program::VERSION;
 use claxon_commands::{PROGRAM, command};
 use claxon_tests::answers::{FRAME, head, joined};
 use claxon_tests::command_lines::{Outcome, is_outcome, owned};
-use claxon_tests::doubles::sinks::Sink;
-use std::io::ErrorKind;
 use std::test::Fail;
 
 // What a command line came to, with these bytes in standard input.
 fn outcome_of(rt: &HostRuntime, words: &[&str], input: &[u8]) -> Result<Outcome, Fail> {
     let words = owned(rt.alloc(), words)?;
     let (mut output, mut errors) = (Vec::new(rt.alloc()), Vec::new(rt.alloc()));
-    let status = command(rt, Some(&words), input, &mut output, false, &mut errors);
+    let status = command(rt, &words, input, &mut output, false, &mut errors);
     Ok(Outcome {
         status,
         output,
@@ -45,14 +43,47 @@ fn no_command(rt: HostRuntime) -> Result<(), Fail> {
     Ok(())
 }
 
+// The commands that take one file refuse a name that isn't UTF-8, the others say that they don't read it.
 #[test]
-fn an_argument_that_is_not_utf8(rt: HostRuntime) {
-    let mut errors: Vec<u8> = Vec::new(rt.alloc());
-    let mut output = Sink::new(1, 0, false, ErrorKind::Other);
-    let status = command(&rt, None, b"".as_slice(), &mut output, false, &mut errors);
-    let want =
-        b"claxon: an argument isn't valid UTF-8\nclaxon: use claxon verify - < FILE, or --files0-from\nusage: claxon info|wav|verify|trace|help ..\n".as_slice();
-    assert!(rt; status == 2 && errors.as_slice() == want);
+fn an_argument_that_is_not_utf8(rt: HostRuntime) -> Result<(), Fail> {
+    let refused = ": an argument isn't valid UTF-8\n";
+    let hint = ": pass such a file as standard input: - < FILE\nusage: ";
+    let rows: [(&[&str], &str, &str); 5] = [
+        (
+            &["\0\\xff"],
+            "claxon",
+            "claxon info|wav|verify|trace|help ..\n",
+        ),
+        (
+            &["help", "\0\\xff"],
+            "claxon",
+            "claxon info|wav|verify|trace|help ..\n",
+        ),
+        (
+            &["wav", "\0\\xff"],
+            "claxon wav",
+            "claxon wav [-f] [--no-md5] FILE [OUT.wav]\n",
+        ),
+        (
+            &["wav", "-", "\0\\xff"],
+            "claxon wav",
+            "claxon wav [-f] [--no-md5] FILE [OUT.wav]\n",
+        ),
+        (
+            &["trace", "\0\\xff"],
+            "claxon trace",
+            "claxon trace [--brief] [--faults N] FILE\n",
+        ),
+    ];
+    for (words, name, usage) in rows {
+        let errors = format!(in rt.alloc(); "{name}{refused}{name}{hint}{usage}")?;
+        let outcome = outcome_of(&rt, words, b"")?;
+        assert!(rt; is(&outcome, 2, "", errors.as_str()), "{words:?}");
+    }
+    let outcome = outcome_of(&rt, &["info", "\0a\\xff"], b"")?;
+    let line = "a\\xff: not read: the name isn't UTF-8; use: claxon info - < FILE\n";
+    assert!(rt; is(&outcome, 1, "", line));
+    Ok(())
 }
 
 const HELP: &str = "usage: claxon info|wav|verify|trace|help ..
@@ -62,18 +93,21 @@ const HELP: &str = "usage: claxon info|wav|verify|trace|help ..
   verify     says of FLAC files whether they are right
   trace      shows what each frame of a FLAC file decodes to
 
-  --help     shows this text
-  --version  shows the version
+  -h, --help shows this text
+  -V, --version
+             shows the version
 
-Status: 0 if all went well, 1 if not, 2 for other arguments.
+Status: 0 if all went well, 1 if not, 2 if the arguments are wrong, 3 for what
+isn't supported (verify).
 
 `claxon help COMMAND` shows more.
 ";
 
 #[test]
 fn version_and_help(rt: HostRuntime) -> Result<(), Fail> {
-    let rows: [&[&str]; 4] = [
+    let rows: [&[&str]; 5] = [
         &["--help", "-x"],
+        &["-h"],
         &["help"],
         &["help", "--help"],
         &["help", "help"],
@@ -90,14 +124,12 @@ fn version_and_help(rt: HostRuntime) -> Result<(), Fail> {
             ""
         )
     );
-    assert!(rt;
-        is(
-            &outcome_of(&rt, &["help", "--version"], b"")?,
-            0,
-            version.as_str(),
-            ""
-        )
-    );
+    for words in [["help", "--version"].as_slice(), ["-V"].as_slice()] {
+        assert!(rt;
+            is(&outcome_of(&rt, words, b"")?, 0, version.as_str(), ""),
+            "{words:?}"
+        );
+    }
     Ok(())
 }
 
@@ -108,8 +140,15 @@ fn has_help(rt: &HostRuntime, name: &str) -> Result<bool, Fail> {
         outcome_of(rt, &["help", name], b"")?,
         outcome_of(rt, &[name, "--help"], b"")?,
     );
+    let short = outcome_of(rt, &[name, "-h"], b"")?;
     let is_help = one.status == 0 && one.output.as_slice().starts_with(usage.as_bytes());
-    Ok(is_help && other.status == 0 && one.output == other.output && one.errors.is_empty())
+    Ok(
+        is_help
+            && other.status == 0
+            && one.output == other.output
+            && one.output == short.output
+            && one.errors.is_empty(),
+    )
 }
 
 // Each command that the help lists.

@@ -10,7 +10,7 @@ use claxon_tests::answers::{DEEP_FRAME, joined};
 use claxon_tests::command_lines::owned;
 use claxon_tests::doubles::sinks::{ByteCounter, Sink};
 use claxon_tests::temporary_files::{file_of, path_of};
-use claxon_wav::{Layout, Result, WavWriter, convert};
+use claxon_wav::{Layout, MAX_HEADER_SIZE, Result, WavWriter, convert};
 use std::alloc::Global;
 use std::io::{Cursor, ErrorKind, Read, Seek, Write};
 use std::test::Fail;
@@ -62,7 +62,9 @@ fn is_converted(
     let info = flac.streaminfo();
     let layout = Layout::new(info.channels, info.bits_per_sample, info.sample_rate, None);
     let mut output = Cursor::new(bytes);
-    let mut wav = WavWriter::start(alloc, &mut output, layout, 1)?;
+    let header = Vec::with_capacity(alloc, MAX_HEADER_SIZE)?;
+    let mut wav = WavWriter::new(alloc, header, &mut output, layout);
+    wav.start(1)?;
     Ok(fills(alloc, &mut flac, &mut wav, errors))
 }
 
@@ -95,7 +97,9 @@ fn in_memory(rt: HostRuntime) -> result::Result<(), Fail> {
 // The text of the error of STREAM's first block, whose samples are 1, -2 and 3, in a file of this layout; and the number of
 // samples that are counted after it.
 fn first_block_into(alloc: Global, layout: Layout, output: &mut Sink) -> Result<(String, u32)> {
-    let mut wav = WavWriter::start(alloc, output, layout, 3)?;
+    let header = Vec::with_capacity(alloc, MAX_HEADER_SIZE)?;
+    let mut wav = WavWriter::new(alloc, header, output, layout);
+    wav.start(3)?;
     let mut text = String::new(alloc);
     if let Some(block) = FrameReader::new(Cursor::new(&STREAM[42..])).read_next_or_eof(Vec::new(
         alloc,
@@ -154,7 +158,9 @@ const LARGE: [u8; 18] = [
 
 // How often the block of LARGE can be written, how many samples are counted then, and the text of the error that follows.
 fn most_blocks(alloc: Global, output: &mut ByteCounter) -> Result<(u32, u32, String)> {
-    let mut wav = WavWriter::start(alloc, output, Layout::new(2, 24, 44100, None), 0)?;
+    let header = Vec::with_capacity(alloc, MAX_HEADER_SIZE)?;
+    let mut wav = WavWriter::new(alloc, header, output, Layout::new(2, 24, 44100, None));
+    wav.start(0)?;
     let mut text = String::new(alloc);
     let mut count = 0;
     if let Some(block) = FrameReader::new(Cursor::new(&LARGE)).read_next_or_eof(Vec::new(alloc))? {

@@ -2,6 +2,8 @@
 #![tactic(auto)]
 
 #[cfg(test)]
+mod arguments;
+#[cfg(test)]
 mod cli;
 #[cfg(test)]
 mod conversions;
@@ -21,6 +23,8 @@ mod texts;
 mod traces;
 #[cfg(test)]
 mod verify_command;
+#[cfg(test)]
+mod verify_files;
 #[cfg(test)]
 mod verify_options;
 #[cfg(test)]

@@ -32,6 +32,20 @@ fn lists(rt: HostRuntime) -> Result<(), Fail> {
     Ok(())
 }
 
+// Names that are longer than what is read at once, around powers of two.
+#[test]
+fn long_names(rt: HostRuntime) -> Result<(), Fail> {
+    let (mut input, mut name) = (Vec::new(rt.alloc()), Vec::new(rt.alloc()));
+    for len in [255, 256, 4095, 4096, 65_536, 1_000_000] {
+        input.clear();
+        input.resize(len, b'x')?;
+        input.push(0)?;
+        let is_read = read_name(&mut Cursor::new(input.as_slice()), &mut name)?;
+        assert!(rt; is_read && name.len() == len, "{len}");
+    }
+    Ok(())
+}
+
 // From the Unicode Standard, table 3-8 and its neighbours: what begins no character, and what is cut short.
 const NAMES: [(&[u8], &str); 8] = [
     (b"", ""),

@@ -1,6 +1,9 @@
 //! Command lines of `claxon verify` with an input in memory: what is printed, and the status.
 use claxon_commands::verify::command;
+use claxon_tests::answers::{FRAME, head, joined};
+use claxon_tests::doubles::sinks::Sink;
 use std::alloc::{AllocError, Global};
+use std::io::ErrorKind;
 use std::test::Fail;
 
 // The arguments, standard input, the status, and the lines on the output and on errors.
@@ -12,7 +15,7 @@ type Row = (
     &'static str,
 );
 
-const ROWS: [Row; 9] = [
+const ROWS: [Row; 17] = [
     (
         &["-"],
         b"ID3\x04",
@@ -24,7 +27,14 @@ const ROWS: [Row; 9] = [
         &["--brief", "-", "-"],
         b"fLaD",
         1,
-        "standard input: wrong, Ill-formed FLAC stream: invalid stream header\nstandard input: wrong, Ill-formed FLAC stream: invalid stream header\n",
+        "standard input: wrong, not a FLAC file\nstandard input: wrong, not a FLAC file\n",
+        "",
+    ),
+    (
+        &["-q", "-"],
+        b"ID3\x04",
+        3,
+        "standard input: not supported, an ID3v2 tag in front of the stream\n",
         "",
     ),
     (
@@ -63,6 +73,56 @@ const ROWS: [Row; 9] = [
         "",
     ),
     (&["--files0-from", "-"], b"\0\0", 0, "", ""),
+    // The first page of a stream in Ogg (RFC 9639, section 10.1), and the first box of a file in MP4.
+    (
+        &["-"],
+        b"OggS\0\x02\0\0\0\0\0\0\0\0\x01\0\0\0\0\0\0\0",
+        3,
+        "standard input: not supported, an Ogg file\n",
+        "",
+    ),
+    (
+        &["--json", "-"],
+        b"\0\0\0\x18ftypM4A ",
+        3,
+        "{\"name\":\"-\",\"verdict\":\"not supported\",\"reason\":\"an MP4 file\"}\n",
+        "",
+    ),
+    (
+        &["--json", "-"],
+        b"RIFF\0\0\0\0WAVE",
+        1,
+        "{\"name\":\"-\",\"verdict\":\"wrong\",\"reason\":\"not a FLAC file\"}\n",
+        "",
+    ),
+    (
+        &["-", "\0a\\xff.flac", "-"],
+        b"ID3\x04",
+        1,
+        "standard input: not supported, an ID3v2 tag in front of the stream\nstandard input: not supported, an ID3v2 tag in front of the stream\n",
+        "a\\xff.flac: not read: the name isn't UTF-8; use: claxon verify - < FILE\n",
+    ),
+    (
+        &["--summary", "-", "/nonexistent/a.flac", "-"],
+        b"ID3\x04",
+        1,
+        "standard input: not supported, an ID3v2 tag in front of the stream\nstandard input: not supported, an ID3v2 tag in front of the stream\n3 files: 0 ok, 0 wrong, 2 not supported, 1 not read\n",
+        "/nonexistent/a.flac: No such file or directory\n",
+    ),
+    (
+        &["--summary", "--json", "-q", "-"],
+        b"fLaD",
+        1,
+        "{\"name\":\"-\",\"verdict\":\"wrong\",\"reason\":\"not a FLAC file\"}\n{\"files\":1,\"ok\":0,\"wrong\":1,\"not_supported\":0,\"not_read\":0}\n",
+        "",
+    ),
+    (
+        &["--summary", "--files0-from", "-"],
+        b"",
+        0,
+        "0 files: 0 ok, 0 wrong, 0 not supported, 0 not read\n",
+        "",
+    ),
     (
         &["--files0-from", "/nonexistent/list"],
         b"",
@@ -103,6 +163,59 @@ fn command_lines(rt: HostRuntime) -> Result<(), Fail> {
             errors.as_slice() == want_errors.as_bytes(),
             "{want_errors}"
         );
+    }
+    Ok(())
+}
+
+// A right stream without an MD5 sum, which `-q` shows, but not where no sum is computed.
+#[test]
+fn a_file_without_a_sum(rt: HostRuntime) -> Result<(), Fail> {
+    let stream = joined(rt.alloc(), &[&head(0x80), &FRAME])?;
+    let line = "standard input: ok, 1 frame, 1 sample, no MD5 sum\n";
+    let rows: [(&[&str], &str); 3] = [
+        (&["-"], line),
+        (&["-q", "-"], line),
+        (&["-q", "--no-md5", "-"], ""),
+    ];
+    for (row, want) in rows {
+        let words = words(rt.alloc(), row)?;
+        let (mut output, mut errors) = (Vec::new(rt.alloc()), Vec::new(rt.alloc()));
+        let status = command(
+            &rt,
+            words.as_slice(),
+            stream.as_slice(),
+            &mut output,
+            false,
+            &mut errors,
+        );
+        assert!(rt; status == 0 && errors.is_empty(), "{row:?}");
+        assert!(rt; output.as_slice() == want.as_bytes(), "{row:?}");
+    }
+    Ok(())
+}
+
+// Nobody reads the output any more: nothing is said of that, and the second file isn't read.
+#[test]
+fn a_closed_pipe(rt: HostRuntime) -> Result<(), Fail> {
+    let rows: [&[&str]; 3] = [
+        &["-", "none"],
+        &["--json", "-", "none"],
+        &["-q", "--summary", "-"],
+    ];
+    for row in rows {
+        let words = words(rt.alloc(), row)?;
+        let stream = joined(rt.alloc(), &[&head(0x80), &FRAME])?;
+        let mut output = Sink::new(64, 0, false, ErrorKind::BrokenPipe);
+        let mut errors: Vec<u8> = Vec::new(rt.alloc());
+        let status = command(
+            &rt,
+            words.as_slice(),
+            stream.as_slice(),
+            &mut output,
+            false,
+            &mut errors,
+        );
+        assert!(rt; status == 1 && errors.is_empty(), "{row:?}");
     }
     Ok(())
 }

@@ -4,9 +4,9 @@ use claxon_commands::verify::options::{NamedFiles, Options, parse};
 use std::alloc::{AllocError, Global};
 use std::test::Fail;
 
-// Arguments, and what they ask for: the options as letters, `m` without the MD5 sum, `b` brief, `j` JSON, `q` quiet and
-// `r` recursive, and the operands after `:` or the list after `<`; or what is printed.
-const ROWS: [(&[&str], &str); 19] = [
+// Arguments, and what they ask for: the options as letters, `m` without the MD5 sum, `b` brief, `j` JSON, `q` quiet,
+// `r` recursive and `s` with a summary, and the operands after `:` or the list after `<`; or what is printed.
+const ROWS: [(&[&str], &str); 22] = [
     (&["a.flac"], ":a.flac"),
     (&["a", "-", "b"], ":a:-:b"),
     (&["--no-md5", "a"], "m:a"),
@@ -26,6 +26,9 @@ const ROWS: [(&[&str], &str); 19] = [
     (&["--files0-from", "a", "--files0-from", "b"], "usage"),
     (&["--md5", "a"], "unknown --md5"),
     (&["a", "--help"], "help"),
+    (&["--summary", "-r", "a"], "rs:a"),
+    (&["--files0-from", "\0a\\xff"], "not UTF-8"),
+    (&["a", "-V"], "version"),
 ];
 
 fn words(alloc: Global, row: &[&str]) -> Result<Vec<String>, AllocError> {
@@ -44,6 +47,7 @@ fn letters(alloc: Global, options: Options) -> Result<String, AllocError> {
         (options.print.is_json, "j"),
         (options.print.is_quiet, "q"),
         (options.is_recursive, "r"),
+        (options.print.has_summary, "s"),
     ] {
         if is_set {
             text.push_str(letter)?;
@@ -75,7 +79,8 @@ fn notice_text(alloc: Global, notice: Notice<'_>) -> Result<String, AllocError> 
         Notice::Help => String::from_str(alloc, "help"),
         Notice::Version => String::from_str(alloc, "version"),
         Notice::UnknownOption(name) => format!(in alloc; "unknown {name}"),
-        Notice::UnknownCommand(_) | Notice::NotUtf8 => String::from_str(alloc, "another"),
+        Notice::UnknownCommand(_) => String::from_str(alloc, "another"),
+        Notice::NotUtf8 => String::from_str(alloc, "not UTF-8"),
         Notice::Usage => String::from_str(alloc, "usage"),
     }
 }

@@ -5,6 +5,7 @@ use claxon::{Error, FlacReader, Result};
 use claxon_command_line::arguments::Operands;
 use claxon_command_line::input::{STANDARD, open_input};
 use claxon_command_line::messages::{Part, line, print_error};
+use claxon_command_line::names::not_utf8_name;
 use claxon_write::{Output, open_head};
 use std::alloc::Global;
 use std::io::{Read, Write};
@@ -20,10 +21,11 @@ Where there are several files, a line `file: NAME` is before those of each.
 
   FILE       a FLAC file; - is standard input
   --         ends the options
-  --help     shows this text
-  --version  shows the version
+  -h, --help shows this text
+  -V, --version
+             shows the version
 
-Status: 0 if all was read and written, 1 if not, 2 for other arguments.
+Status: 0 if all was read and written, 1 if not, 2 if the arguments are wrong.
 ",
 };
 
@@ -45,6 +47,9 @@ where
         Err(notice) => PROGRAM.print(rt.alloc(), notice, output, errors),
     }
 }
+
+// Why a file whose name isn't UTF-8 isn't read.
+const NOT_UTF8: &str = "not read: the name isn't UTF-8; use: claxon info - < FILE";
 
 // What became of a file.
 #[derive(Clone, Copy)]
@@ -68,6 +73,11 @@ where
     let has_heading = names.total() > 1;
     let mut status = 0;
     for name in names {
+        if let Some(shown) = not_utf8_name(name) {
+            let _ = writeln!(errors, "{shown}: {NOT_UTF8}");
+            status = 1;
+            continue;
+        }
         match show_file(rt, name, has_heading, input, output, errors) {
             FileOutcome::Shown => {}
             FileOutcome::Faulty => status = 1,

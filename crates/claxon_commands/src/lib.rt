@@ -10,6 +10,7 @@ pub mod wav;
 
 use crate::program::Program;
 use claxon_command_line::arguments::{Argument, Arguments, Notice};
+use claxon_command_line::names::not_utf8_name;
 use claxon_command_line::status;
 pub use facts::write_facts;
 use std::alloc::{AllocError, Global};
@@ -27,20 +28,22 @@ pub const PROGRAM: Program = Program {
         ("trace", "shows what each frame of a FLAC file decodes to"),
     ],
     help: "
-  --help     shows this text
-  --version  shows the version
+  -h, --help shows this text
+  -V, --version
+             shows the version
 
-Status: 0 if all went well, 1 if not, 2 for other arguments.
+Status: 0 if all went well, 1 if not, 2 if the arguments are wrong, 3 for what
+isn't supported (verify).
 
 `claxon help COMMAND` shows more.
 ",
 };
 
-/// Does what the arguments say, of which None is that one isn't UTF-8, and returns the exit status: that of the command, or 2
+/// Does what the arguments say, each of which is as `word_of` has it, and returns the exit status: that of the command, or 2
 /// for arguments that ask for none. A failed write to `errors` is ignored.
 pub fn command<Q: Files + AllocGlobal, I: Read + Copy, W: Write + Drop, E: Write>(
     rt: &Q,
-    words: Option<&[String]>,
+    words: &[String],
     input: I,
     output: W,
     shows_progress: bool,
@@ -82,10 +85,7 @@ enum Action<'a> {
     Help(&'a str),
 }
 
-fn parse<'a>(words: Option<&'a [String]>) -> Result<Action<'a>, Notice<'a>> {
-    let Some(words) = words else {
-        return Err(Notice::NotUtf8);
-    };
+fn parse<'a>(words: &'a [String]) -> Result<Action<'a>, Notice<'a>> {
     let call = split_name(words)?;
     if call.name != "help" {
         return Ok(Action::Run(call));
@@ -107,6 +107,7 @@ fn parse<'a>(words: Option<&'a [String]>) -> Result<Action<'a>, Notice<'a>> {
 fn split_name<'a>(words: &'a [String]) -> Result<Call<'a>, Notice<'a>> {
     let mut arguments = Arguments::new(words);
     match arguments.next() {
+        Some(Argument::Operand(name)) if not_utf8_name(name).is_some() => Err(Notice::NotUtf8),
         Some(Argument::Operand(name)) => {
             let words = arguments.rest();
             Ok(Call { name, words })

@@ -20,7 +20,7 @@ use std::io::Write;
 pub const VERSION: &str = "0.3.0";
 
 // What to do with a file whose name isn't UTF-8.
-const NOT_UTF8_HELP: &str = "use claxon verify - < FILE, or --files0-from";
+const NOT_UTF8_HELP: &str = "pass such a file as standard input: - < FILE";
 
 /// What the program, or one of its commands, says about itself.
 #[derive(Clone, Copy)]

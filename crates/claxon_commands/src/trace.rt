@@ -10,6 +10,7 @@ use claxon_command_line::arguments::{Argument, Arguments, Notice};
 use claxon_command_line::fnv::{OFFSET_BASIS, hash_on};
 use claxon_command_line::input::{STANDARD, open_input};
 use claxon_command_line::messages::{Part, print_error, print_message};
+use claxon_command_line::names::not_utf8_name;
 use claxon_command_line::result_text::ResultText;
 use claxon_command_line::text::count_text;
 use std::alloc::{AllocError, Allocator, Global};
@@ -31,10 +32,12 @@ the next call is made.
   --faults N  stops after N faults, 0 for never: 10000 by default, or never with
               --brief
   --          ends the options
-  --help      shows this text
-  --version   shows the version
+  -h, --help  shows this text
+  -V, --version
+              shows the version
 
-Status: 0 if there was no fault, 1 if there was one, 2 for other arguments.
+Status: 0 if there was no fault, 1 if there was one, the file can't be read, or
+the output fails; 2 if the arguments are wrong.
 ",
 };
 
@@ -76,6 +79,9 @@ fn parse<'a>(words: &'a [String]) -> result::Result<TraceRequest<'a>, Notice<'a>
             Argument::Option("--brief") => is_brief = true,
             Argument::Option("--faults") => max_faults = Some(number(arguments.value())?),
             Argument::Option(option) => return Err(Notice::of_option(option)),
+            Argument::Operand(operand) if not_utf8_name(operand).is_some() => return Err(
+                Notice::NotUtf8,
+            ),
             Argument::Operand(operand) if name.is_none() => name = Some(operand),
             Argument::Operand(_) => return Err(Notice::Usage),
         }

@@ -3,17 +3,23 @@ use crate::program::Program;
 use claxon::Error;
 use claxon::input::BufferedReader;
 use claxon_command_line::arguments::Operands;
-use claxon_command_line::folders::{add_contents, is_folder, is_real_folder};
+use claxon_command_line::folders::{
+    add_contents, is_flac_name, is_folder, is_no_file, is_real_folder,
+};
 use claxon_command_line::input::{Input, STANDARD, open_input};
 use claxon_command_line::messages::{Part, print_error, shown_name};
-use claxon_command_line::names::{escaped_bytes, read_name};
+use claxon_command_line::names::{escaped_bytes, not_utf8_name, read_name};
 use claxon_command_line::progress::{Position, Progress, file_label};
-use claxon_verdict::print::{PrintOptions, print_failure, print_report, print_unread};
-use claxon_verdict::verdict::Outcome;
+use claxon_verdict::container::container;
+use claxon_verdict::print::{
+    PrintOptions, print_failure, print_not_read, print_report, print_summary, print_unread,
+};
+use claxon_verdict::tally::Tally;
+use claxon_verdict::verdict::Verdict;
 use claxon_verify::report::Report;
 use claxon_verify::verify;
 use std::alloc::Global;
-use std::io::{Read, Write};
+use std::io::{Cursor, Read, Write};
 use std::rt::Files;
 use std::str;
 
@@ -24,34 +30,39 @@ use options::{NamedFiles, Options, VerifyRequest, parse};
 /// What the command says about itself.
 pub const PROGRAM: Program = Program {
     name: "claxon verify",
-    arguments: "[--no-md5] [--brief] [--json] [-q] [-r] [--files0-from FILE] [--] FILE..",
+    arguments: "[--no-md5] [--brief] [--json] [-q] [-r] [--summary] [--files0-from FILE] [--] FILE..",
     commands: &[],
     help: "Decodes FLAC files to their ends and says of each, in a line, whether it is
-right: every frame can be decoded, none is missing or repeated, all agree with
-the streaminfo, and so do the number of samples and their MD5 sum. After a
-fault decoding goes on with the bytes after it. A file that isn't right has a
-line for each place that isn't: its bytes, its samples and what is wrong. A
-file that the format allows and claxon doesn't decode, as one with an ID3v2 tag
-in front, is not supported, and not wrong.
+right: every frame can be decoded, none is missing or repeated, all have the
+channels, bit depth and sample rate of the streaminfo, and the samples are as
+many as it says, and have its MD5 sum. After a fault decoding goes on with the
+bytes after it. A file that isn't right has a line for each place that isn't:
+its bytes, its samples and what is wrong. Bytes A to B are those from A on
+before B, and so are samples. A file that the format allows and claxon doesn't
+decode, as one with an ID3v2 tag in front, or in Ogg or MP4, is not supported,
+and not wrong.
 
   FILE       a FLAC file; - is standard input
   --no-md5   doesn't compute the MD5 sum, which takes less time
-  --brief    prints no lines of places
+  --brief    prints the first place alone, on the line of the file
   --json     prints an object of JSON for each file, on a line
   -q, --quiet
-             prints nothing about files that are right
+             prints nothing about files that are right and have an MD5 sum
   -r, --recursive
-             takes a folder as all files below it whose names end with .flac,
-             in order of names; symbolic links to folders aren't followed
+             takes a folder as all files below it whose names end with .flac or
+             .FLAC, in order of names; pipes and devices are passed over, and
+             symbolic links to folders aren't followed
+  --summary  prints last how many files are right, wrong and so on
   --files0-from FILE
              reads the names of the files from this file, or from standard
              input for -; each ends with a zero byte, as of find -print0
   --         ends the options
-  --help     shows this text
-  --version  shows the version
+  -h, --help shows this text
+  -V, --version
+             shows the version
 
 Status: 0 if all are right, 1 if one is wrong, can't be read, or the output
-fails, else 3 if one isn't supported; 2 for other arguments.
+fails, else 3 if one isn't supported; 2 if the arguments are wrong.
 ",
 };
 
@@ -76,12 +87,13 @@ where
                 options,
                 shows_progress,
             };
-            match files {
+            let tally = match files {
                 NamedFiles::Operands(names) => verify_operands(
                     rt, job, names, input, output, errors,
                 ),
                 NamedFiles::List(list) => verify_list(rt, job, list, input, output, errors),
-            }
+            };
+            finish(rt.alloc(), options.print, tally, output, errors)
         }
         Err(notice) => PROGRAM.print(rt.alloc(), notice, output, errors),
     }
@@ -98,7 +110,27 @@ struct Job {
 #[derive(Clone, Copy)]
 struct NamedFile<'a> {
     name: &'a str,
-    position: Position,
+    // The files before it.
+    before: Tally,
+    // How many files there are, if that is known.
+    total: Option<u64>,
+}
+
+// Ends a run with these files, of which None is that the output failed, and returns the exit status.
+fn finish<W: Write, E: Write>(
+    alloc: Global,
+    options: PrintOptions,
+    tally: Option<Tally>,
+    output: &mut W,
+    errors: &mut E,
+) -> u8 {
+    let Some(tally) = tally else {
+        return 1;
+    };
+    if options.has_summary && !print_summary(alloc, tally, options, output, errors) {
+        return 1;
+    }
+    tally.status()
 }
 
 fn verify_operands<Q: Files + AllocGlobal, I: Read + Copy, W: Write, E: Write>(
@@ -108,22 +140,25 @@ fn verify_operands<Q: Files + AllocGlobal, I: Read + Copy, W: Write, E: Write>(
     input: I,
     output: &mut W,
     errors: &mut E,
-) -> u8
+) -> Option<Tally>
 where
     Q::File: Read,
 {
-    let total = Some(names.total() as u64);
-    let (mut outcome, mut number) = (Outcome::Right, 0u64);
+    let total = if job.options.is_recursive {
+        None
+    } else {
+        Some(names.total() as u64)
+    };
+    let mut before = Tally::new();
     for name in names {
-        number = number.saturating_add(1);
-        let position = Position { number, total };
-        let file = NamedFile { name, position };
-        match verify_named(rt, job, file, input, output, errors) {
-            Some(one) => outcome = outcome.worst(one),
-            None => return 1,
-        }
+        let file = NamedFile {
+            name,
+            before,
+            total,
+        };
+        before = verify_named(rt, job, file, input, output, errors)?;
     }
-    outcome.status()
+    Some(before)
 }
 
 // The files that are named in a list.
@@ -134,51 +169,52 @@ fn verify_list<Q: Files + AllocGlobal, I: Read + Copy, W: Write, E: Write>(
     input: I,
     output: &mut W,
     errors: &mut E,
-) -> u8
+) -> Option<Tally>
 where
     Q::File: Read,
 {
+    let mut before = Tally::new();
     let mut names = match open(rt, list, input) {
         Ok(names) => names,
-        Err(error) => return list_failed(rt.alloc(), list, &error, errors),
+        Err(error) => return Some(list_failed(rt.alloc(), list, before, &error, errors)),
     };
     let mut name = Vec::new(rt.alloc());
-    let (mut outcome, mut number) = (Outcome::Right, 0u64);
     for _ in 0..u64::MAX {
         match read_name(&mut names, &mut name) {
             Ok(true) => {}
-            Ok(false) => return outcome.status(),
-            Err(error) => return list_failed(rt.alloc(), list, &error, errors),
+            Ok(false) => return Some(before),
+            Err(error) => return Some(list_failed(rt.alloc(), list, before, &error, errors)),
         }
-        number = number.saturating_add(1);
-        let total = None;
-        let position = Position { number, total };
-        let one = match listed_name(list, name.as_slice()) {
+        before = match listed_name(list, name.as_slice()) {
             Ok(name) => {
-                let file = NamedFile { name, position };
-                verify_named(rt, job, file, input, output, errors)
+                let total = None;
+                let file = NamedFile {
+                    name,
+                    before,
+                    total,
+                };
+                verify_named(rt, job, file, input, output, errors)?
             }
-            Err(reason) => refuse_name(
-                rt.alloc(),
-                name.as_slice(),
-                reason,
-                job.options.print,
-                output,
-                errors,
-            ),
+            Err(reason) => {
+                let shown = escaped_bytes(rt.alloc(), name.as_slice());
+                let options = job.options.print;
+                before.with(print_unread(rt.alloc(), shown, reason, options, output, errors)?)
+            }
         };
-        match one {
-            Some(one) => outcome = outcome.worst(one),
-            None => return 1,
-        }
     }
-    1
+    None
 }
 
-// Prints that a list can't be read, and returns the exit status.
-fn list_failed<E: Write>(alloc: Global, list: &str, error: &Error, errors: &mut E) -> u8 {
+// Prints that a list can't be read.
+fn list_failed<E: Write>(
+    alloc: Global,
+    list: &str,
+    before: Tally,
+    error: &Error,
+    errors: &mut E,
+) -> Tally {
     print_error(alloc, list, Part::Head, error, errors);
-    1
+    before.with(Verdict::NotRead)
 }
 
 // A name of a list, or why it can't be opened. Standard input can't be the list and a file in it.
@@ -195,19 +231,6 @@ fn listed_name<'a>(list: &str, name: &'a [u8]) -> Result<&'a str, &'static str> 
 // Why a file whose name isn't UTF-8 can't be opened.
 const NOT_UTF8: &str = "the name isn't UTF-8; use: claxon verify - < FILE";
 
-// Prints that a file isn't read, for this reason.
-fn refuse_name<W: Write, E: Write>(
-    alloc: Global,
-    name: &[u8],
-    reason: &str,
-    options: PrintOptions,
-    output: &mut W,
-    errors: &mut E,
-) -> Option<Outcome> {
-    let shown = escaped_bytes(alloc, name);
-    print_unread(alloc, shown, reason, options, output, errors)
-}
-
 // A file, or the FLAC files below a folder where these are wanted.
 fn verify_named<Q: Files + AllocGlobal, I: Read + Copy, W: Write, E: Write>(
     rt: &Q,
@@ -216,75 +239,88 @@ fn verify_named<Q: Files + AllocGlobal, I: Read + Copy, W: Write, E: Write>(
     input: I,
     output: &mut W,
     errors: &mut E,
-) -> Option<Outcome>
+) -> Option<Tally>
 where
     Q::File: Read,
 {
     let name = file.name;
+    if let Some(shown) = not_utf8_name(name) {
+        let (alloc, options) = (rt.alloc(), job.options.print);
+        let shown = String::from_str(alloc, shown);
+        let verdict = print_unread(alloc, shown, NOT_UTF8, options, output, errors)?;
+        return Some(file.before.with(verdict));
+    }
     if job.options.is_recursive && name != STANDARD && is_folder(rt, name) {
-        return verify_folder(rt, job, name, input, output, errors);
+        return verify_folder(rt, job, file, input, output, errors);
     }
     verify_one(rt, job, file, input, output, errors)
 }
 
-// The files below a folder whose names end with `.flac`, in order of names. Symbolic links to folders aren't followed.
+// The FLAC files below a folder, in order of names. Symbolic links to folders aren't followed.
 fn verify_folder<Q: Files + AllocGlobal, I: Read + Copy, W: Write, E: Write>(
     rt: &Q,
     job: Job,
-    folder: &str,
+    folder: NamedFile<'_>,
     input: I,
     output: &mut W,
     errors: &mut E,
-) -> Option<Outcome>
+) -> Option<Tally>
 where
     Q::File: Read,
 {
-    let mut paths = Vec::new(rt.alloc());
-    let mut outcome = list(rt, job.options.print, folder, &mut paths, output, errors)?;
-    let mut number = 0u64;
+    let (alloc, options) = (rt.alloc(), job.options.print);
+    let mut paths = Vec::new(alloc);
+    let mut before = list(rt, options, folder, &mut paths, output, errors)?;
     for _ in 0..u64::MAX {
         let Some(path) = paths.pop() else {
             break;
         };
-        number = number.saturating_add(1);
-        let total = None;
-        let position = Position { number, total };
         let path = path.as_slice();
-        let one = match str::from_utf8(path) {
-            Ok(name) if is_real_folder(rt, name) => {
-                list(rt, job.options.print, name, &mut paths, output, errors)
+        before = match str::from_utf8(path) {
+            Ok(name) => {
+                let total = None;
+                let entry = NamedFile {
+                    name,
+                    before,
+                    total,
+                };
+                if is_real_folder(rt, name) {
+                    list(rt, options, entry, &mut paths, output, errors)?
+                } else if is_flac_name(name) && !is_no_file(rt, name) {
+                    verify_one(rt, job, entry, input, output, errors)?
+                } else {
+                    before
+                }
             }
-            Ok(name) if name.ends_with(".flac") => {
-                let file = NamedFile { name, position };
-                verify_one(rt, job, file, input, output, errors)
+            Err(_) => {
+                let shown = escaped_bytes(alloc, path);
+                before.with(print_unread(alloc, shown, NOT_UTF8, options, output, errors)?)
             }
-            Ok(_) => Some(Outcome::Right),
-            Err(_) => refuse_name(
-                rt.alloc(),
-                path,
-                NOT_UTF8,
-                job.options.print,
-                output,
-                errors,
-            ),
         };
-        outcome = outcome.worst(one?);
     }
-    Some(outcome)
+    if before.files() > folder.before.files() {
+        return Some(before);
+    }
+    let verdict = print_not_read(alloc, folder.name, "no FLAC files", options, output, errors)?;
+    Some(before.with(verdict))
 }
 
 // Adds what lies in a folder, or prints that it can't be read.
 fn list<Q: Files + AllocGlobal, W: Write, E: Write>(
     rt: &Q,
     options: PrintOptions,
-    folder: &str,
+    folder: NamedFile<'_>,
     paths: &mut Vec<Vec<u8>>,
     output: &mut W,
     errors: &mut E,
-) -> Option<Outcome> {
-    match add_contents(rt, folder, paths) {
-        Ok(()) => Some(Outcome::Right),
-        Err(error) => print_failure(rt.alloc(), folder, &error, options, output, errors),
+) -> Option<Tally> {
+    match add_contents(rt, folder.name, paths) {
+        Ok(()) => Some(folder.before),
+        Err(error) => {
+            let alloc = rt.alloc();
+            let verdict = print_failure(alloc, folder.name, &error, options, output, errors)?;
+            Some(folder.before.with(verdict))
+        }
     }
 }
 
@@ -296,16 +332,23 @@ fn verify_one<Q: Files + AllocGlobal, I: Read + Copy, W: Write, E: Write>(
     input: I,
     output: &mut W,
     errors: &mut E,
-) -> Option<Outcome>
+) -> Option<Tally>
 where
     Q::File: Read,
 {
-    let (alloc, options) = (rt.alloc(), job.options.print);
-    match verify_shown(rt, job, file, input, errors) {
-        Ok(report) => print_report(alloc, file.name, &report, options, output, errors),
-        Err(error) => print_failure(alloc, file.name, &error, options, output, errors),
-    }
+    let (alloc, options, name) = (rt.alloc(), job.options.print, file.name);
+    let verdict = match verify_shown(rt, job, file, input, errors) {
+        Ok(report) => print_report(alloc, name, &report, options, output, errors),
+        Err(_) if name != STANDARD && is_folder(rt, name) => {
+            print_not_read(alloc, name, IS_FOLDER, options, output, errors)
+        }
+        Err(error) => print_failure(alloc, name, &error, options, output, errors),
+    };
+    Some(file.before.with(verdict?))
 }
+
+// Why a folder isn't read.
+const IS_FOLDER: &str = "Is a directory; with -r the FLAC files below it are verified";
 
 // Verifies a file, with a line of progress.
 fn verify_shown<Q: Files + AllocGlobal, I: Read + Copy, E: Write>(
@@ -318,7 +361,9 @@ fn verify_shown<Q: Files + AllocGlobal, I: Read + Copy, E: Write>(
 where
     Q::File: Read,
 {
-    let NamedFile { name, position } = file;
+    let (name, total) = (file.name, file.total);
+    let number = file.before.files().saturating_add(1);
+    let position = Position { number, total };
     let label = if job.shows_progress {
         file_label(rt.alloc(), position, shown_name(name, Part::Frame))?
     } else {
@@ -347,6 +392,7 @@ where
     BufferedReader::new(rt.alloc(), input)
 }
 
+// A file in Ogg or MP4 isn't supported by this name.
 fn verify_file<Q: Files + AllocGlobal, I: Read + Copy, E: Write>(
     rt: &Q,
     options: Options,
@@ -357,6 +403,21 @@ fn verify_file<Q: Files + AllocGlobal, I: Read + Copy, E: Write>(
 where
     Q::File: Read,
 {
-    let mut input = open(rt, name, input)?;
-    verify(rt.alloc(), &mut input, options.computes_md5, progress)
+    let mut input = open_input(rt, name, input)?;
+    let front = front_of(rt.alloc(), &mut input)?;
+    let format = container(front.as_slice());
+    let mut input = BufferedReader::new(rt.alloc(), Cursor::new(front).chain(input))?;
+    match verify(rt.alloc(), &mut input, options.computes_md5, progress) {
+        Err(Error::FormatError(_)) if let Some(format) = format => Err(Error::Unsupported(format)),
+        answer => answer,
+    }
+}
+
+// The first bytes of an input: as many as a `BufferedReader` reads. A read that fails is left to be tried again.
+fn front_of<R: Read>(alloc: Global, input: &mut R) -> claxon::Result<Vec<u8>> {
+    let mut front = Vec::new(alloc);
+    front.resize(2048, 0u8)?;
+    let length = input.read(front.as_mut_slice()).unwrap_or(0);
+    front.truncate(length);
+    Ok(front)
 }

@@ -2,7 +2,7 @@
 ghost use Rattle.std.specs.Prelude.{◌≡◌, false};
 ghost use Rattle.claxon.specs.FlacReader.{flac_metadata_only};
 ghost use Rattle.claxon_commands.specs.WavStatus.{status_after};
-ghost use Rattle.claxon_wav.specs.Conversion.{VerdictIsSound};
+ghost use Rattle.claxon_wav.specs.Conversion.{ConversionIsSound};
 
 use crate::program::Program;
 use claxon::FlacReader;
@@ -11,6 +11,7 @@ use claxon_blocks::md5_verdict::Md5Verdict;
 use claxon_command_line::arguments::{Argument, Arguments, Notice};
 use claxon_command_line::input::{STANDARD, open_input};
 use claxon_command_line::messages::{Part, print_error, print_message};
+use claxon_command_line::names::not_utf8_name;
 use claxon_command_line::progress::Progress;
 use claxon_command_line::text::count_text;
 use claxon_wav::{Conversion, Error, Plan, Result, write_file, write_stream};
@@ -35,14 +36,16 @@ pub const PROGRAM: Program = Program {
   -f         replaces OUT.wav if it exists
   --no-md5   doesn't compute the MD5 sum, which takes less time
   --         ends the options
-  --help     shows this text
-  --version  shows the version
+  -h, --help shows this text
+  -V, --version
+             shows the version
 
 Samples before a fault are written too. Another number of samples than in the
 streaminfo is a fault, and so is another MD5 sum, if the streaminfo has one. All
 samples are written then.
 
-Status: 0 if there was no fault, 1 if there was one, 2 for other arguments.
+Status: 0 if there was no fault, 1 if there was one, 2 if the arguments are
+wrong.
 ",
 };
 
@@ -90,6 +93,7 @@ fn parse<'a>(
             Argument::Option("-f") => replaces = true,
             Argument::Option("--no-md5") => computes_md5 = false,
             Argument::Option(option) => return Err(Notice::of_option(option)),
+            Argument::Operand(name) if not_utf8_name(name).is_some() => return Err(Notice::NotUtf8),
             Argument::Operand(name) if from.is_none() => from = Some(name),
             Argument::Operand(name) if to.is_none() => to = Some(name),
             Argument::Operand(_) => return Err(Notice::Usage),
@@ -178,23 +182,22 @@ fn write_wav<Q: Files + AllocGlobal, R: Read + Drop, W: Write + Drop, E: Write>(
     request: WavRequest<'_>,
     to: &str,
     flac: &mut FlacReader<R>,
-    output: W,
+    mut output: W,
     progress: &mut Progress<'_, '_, E>,
 ) -> Result<Conversion>
     requires { flac_metadata_only flac.old ≡ false }
-    ensures verdict_is_sound { VerdictIsSound request.entry.computes_md5 R.remaining flac.old
-        result }
+    ensures is_sound { ConversionIsSound request.entry.computes_md5 R.remaining flac.old result }
 {
     let plan = Plan::of_stream(flac, request.computes_md5)?;
     let alloc = rt.alloc();
     if to == STANDARD {
-        return write_stream(alloc, flac, output, plan, progress);
+        return write_stream(alloc, flac, &mut output, plan, progress);
     }
-    let file = create(rt, request, to)?;
+    let mut file = create(rt, request, to)?;
     if is_regular(&file) {
-        return write_file(alloc, flac, file, plan, progress);
+        return write_file(alloc, flac, &mut file, plan, progress);
     }
-    write_stream(alloc, flac, file, plan, progress)
+    write_stream(alloc, flac, &mut file, plan, progress)
 }
 
 // That the MD5 sum of the samples is another one.

@@ -1,4 +1,5 @@
-//! Test doubles: an allocator that refuses one request, and a writer that fails.
+//! Test doubles: an allocator that refuses one request, a reader that fails, and a writer that fails.
+pub mod readers;
 pub mod sinks;
 
 use std::alloc::{AllocError, Allocator};

@@ -1,7 +1,7 @@
 //! Tests of the decoder that cross crates, with what other tests need too: doubles, streams, results in a form that can be compared,
-//! temporary files. Bytes and bits; sequences of metadata blocks; frames and whole streams, from files and over readers that give
-//! few bytes, pause and fail; runs of some 2^32 zeros; runs into writers of all kinds; command lines of `claxon_raw`; refused memory;
-//! and vectors of upstream's tests. Rows of bytes with their results are lines of `claxon_cases`.
+//! temporary files. Bytes and bits; sequences of metadata blocks; headers of frames; frames and whole streams, from files and over
+//! readers that give few bytes, pause and fail; runs of some 2^32 zeros; runs into writers of all kinds; command lines of
+//! `claxon_raw`; refused memory; and vectors of upstream's tests. Rows of bytes with their results are lines of `claxon_cases`.
 #![tactic(auto)]
 
 pub mod answers;
@@ -14,10 +14,17 @@ pub mod command_lines;
 mod cuts;
 pub mod doubles;
 #[cfg(test)]
+mod failing;
+#[cfg(test)]
 mod files;
 #[cfg(test)]
+mod frames;
+#[cfg(test)]
+mod headers;
+#[cfg(test)]
 mod in_turn;
-pub mod input;
+#[cfg(test)]
+mod input;
 #[cfg(test)]
 mod lost_output;
 #[cfg(test)]

@@ -1,5 +1,5 @@
-//! Vectors of upstream's tests of public functions. Those of single samples, channels and frames are lines of
-//! `claxon_cases/data/subframes.txt` and `frames.txt`; those of private functions are next to these functions.
+//! Vectors of upstream's tests of public functions. Those of single samples, channels, coded numbers and frames are lines of
+//! `claxon_cases/data/subframes.txt` and `frames.txt`.
 use claxon::Block;
 use claxon::subframe::extend_sign_u32;
 

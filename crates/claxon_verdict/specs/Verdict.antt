@@ -17,17 +17,23 @@ use Rattle.std.specs.Prelude.{
   None,
   Some,
   Result,
+  IsSome,
   IsTrue,
 }
 use Rattle.std.specs.declared.alloc.AllocError.{AllocError}
-use Rattle.std.specs.declared.io.ErrorKind.TheVariants.{UnexpectedEof}
+use Rattle.std.specs.declared.io.ErrorKind.TheVariants.{BrokenPipe, UnexpectedEof}
 use Rattle.std.specs.declared.string.String.{String}
 use Rattle.std.specs.IoError.{error_kind}
 use Rattle.claxon.specs.Codes.{when◌then◌else◌}
 use Rattle.claxon.specs.Error.{IsFault}
 use Rattle.claxon.specs.Errors.{Error}
 use Rattle.claxon.specs.Errors.TheVariants.{FormatError, IoError, OutOfMemory, Unsupported}
-use Rattle.claxon.specs.Fault.{Id3Header, SampleRate as SampleRateFault, SideTooWide}
+use Rattle.claxon.specs.Fault.{
+  Id3Header,
+  SampleRate as SampleRateFault,
+  SideTooWide,
+  StreamMarker,
+}
 use Rattle.claxon.specs.StreamInfos.{StreamInfo}
 use Rattle.claxon_command_line.specs.Messages.{ErrorTextIsSound}
 use Rattle.claxon_command_line.specs.Text.{IsText, count_text}
@@ -45,7 +51,10 @@ use Rattle.claxon_verdict.specs.declared.verdict.Verdict.TheVariants.{
   Wrong,
 }
 use Rattle.claxon_blocks.specs.declared.frames.FrameError.{FrameError}
-use Rattle.claxon_command_line.specs.declared.messages.Part.TheVariants.{Frame}
+use Rattle.claxon_command_line.specs.declared.messages.Part.TheVariants.{Frame, Head}
+use Rattle.claxon.specs.MetadataBlock.{or_zero}
+use Rattle.claxon_verify.specs.Verify.{NothingIsWrong}
+use Rattle.claxon_verify.specs.declared.report.BlockSizes.{BlockSizes}
 use Rattle.claxon_verify.specs.declared.report.Damage.{Damage}
 use Rattle.claxon_verify.specs.declared.report.Damage.TheVariants.{
   BitDepth,
@@ -55,10 +64,21 @@ use Rattle.claxon_verify.specs.declared.report.Damage.TheVariants.{
   Missing,
   Repeated,
   SampleRate,
+  WideSample,
 }
 use Rattle.claxon_verify.specs.declared.report.Place.{Place}
 use Rattle.claxon_verify.specs.declared.report.Gap.{Gap}
 use Rattle.claxon_verify.specs.declared.report.Report.{Report}
+use Rattle.claxon_verify.specs.declared.report.UnsupportedBlock.{UnsupportedBlock}
+use Rattle.claxon_verify.specs.declared.report.UnsupportedBlock.TheVariants.{
+  BytesLeft,
+  FieldName,
+  LargeApplication,
+  LargeComments,
+  NoSeparator,
+  NotUtf8,
+  SecondComments,
+}
 use Rattle.claxon_verify.specs.declared.report.Trailing.{Trailing}
 use Rattle.claxon_verify.specs.declared.report.Trailing.TheVariants.{Ape, Id3v1, Other, Zeros}
 
@@ -70,6 +90,11 @@ IsUnread (IoError cause) = error_kind cause ≡ UnexpectedEof → ⊥
 IsUnread (FormatError text) = ⊥
 IsUnread (Unsupported text) = ⊥
 IsUnread OutOfMemory = Unit {0}
+
+-- A write failed because nobody reads the pipe any more.
+abbrev pub IsBrokenPipe : Error → Type 0
+IsBrokenPipe (IoError cause) = error_kind cause ≡ BrokenPipe
+IsBrokenPipe error = ⊥
 
 -- an error that names a feature as unsupported
 abbrev pub is_unsupported_feature : Error → Bool
@@ -104,14 +129,47 @@ abbrev pub FirstIsUnsupported : StreamInfo → Option Place → Type 0
 FirstIsUnsupported info None = ⊥
 FirstIsUnsupported info (Some place) = IsUnsupportedDamage info place.damage
 
--- A stream that isn't right is not supported if its first place is such a frame, and else wrong.
+-- A read failed there.
+abbrev pub IsUnreadDamage : Damage → Type 0
+IsUnreadDamage (NotDecoded fault) = IsUnread fault.error
+IsUnreadDamage damage = ⊥
+
+-- The first place is a failed read.
+abbrev pub FirstIsUnread : Option Place → Type 0
+FirstIsUnread None = ⊥
+FirstIsUnread (Some place) = IsUnreadDamage place.damage
+
+-- Nothing is wrong with the frames, their number and their MD5 sum.
+abbrev pub HasSoundFrames : {A : Type 0} → Report A → Type 0
+HasSoundFrames report = NothingIsWrong report.found (or_zero report.info.samples) report.md5
+
+-- Nothing else is wrong than that a metadata block isn't supported.
+abbrev pub JustBlockIsUnsupported : {A : Type 0} → Report A → Type 0
+JustBlockIsUnsupported report = IsSome report.unsupported × HasSoundFrames report
+
+-- A stream that isn't right is not read if its first place is a failed read, not supported if that
+-- is such a frame or nothing is wrong but a metadata block that isn't supported, and else wrong.
 abbrev pub ReportVerdictIsSound : {A : Type 0} → Report A → Verdict → Type 0
 ReportVerdictIsSound report Right = report.is_right ≡ true
 ReportVerdictIsSound report Wrong =
-    (report.is_right ≡ false) × (FirstIsUnsupported report.info report.found.places.first → ⊥)
+    (report.is_right ≡ false) × (FirstIsUnread report.found.places.first → ⊥)
+    × (FirstIsUnsupported report.info report.found.places.first → ⊥)
+    × (JustBlockIsUnsupported report → ⊥)
 ReportVerdictIsSound report (NotSupported reason) =
-    (report.is_right ≡ false) × FirstIsUnsupported report.info report.found.places.first
-ReportVerdictIsSound report NotRead = ⊥
+    (report.is_right ≡ false) × (FirstIsUnread report.found.places.first → ⊥)
+    × (FirstIsUnsupported report.info report.found.places.first ⊎ JustBlockIsUnsupported report)
+ReportVerdictIsSound report NotRead =
+    (report.is_right ≡ false) × FirstIsUnread report.found.places.first
+
+-- what isn't supported of a metadata block
+abbrev pub block_reason : UnsupportedBlock → List ℕ
+block_reason SecondComments = codes "a second Vorbis comment block"
+block_reason NotUtf8 = codes "a tag or vendor string that isn't UTF-8"
+block_reason NoSeparator = codes "a tag without '='"
+block_reason FieldName = codes "a tag's name with a byte other than 0x20 to 0x7d"
+block_reason BytesLeft = codes "bytes after the last tag"
+block_reason LargeComments = codes "Vorbis comment blocks larger than 10 MiB"
+block_reason LargeApplication = codes "application blocks larger than 10 MiB"
 
 -- ---- the exit status
 
@@ -133,6 +191,13 @@ status_of SomeWrong = 1
 status_of SomeNotSupported = 3
 
 -- ---- what is wrong, as text
+
+-- Of a head an Ok says that the file isn't FLAC where its first bytes aren't those of a stream, or
+-- else has the error's text.
+pub record HeadErrorTextIsSound {A : Type 0} (error : Error) (r : Result (String A) AllocError)
+    : Type 0 where
+  pub other_file : IsFault StreamMarker error → IsText (codes "not a FLAC file") r
+  pub else_error_text : (IsFault StreamMarker error → ⊥) → ErrorTextIsSound Head error r
 
 -- Of a frame that isn't decoded an Ok says that 32-bit samples aren't supported where it is refused
 -- for them, or else has the error's text.
@@ -167,6 +232,18 @@ DamageTextIsSound info BlockingStrategy r =
     IsText (codes "the blocking strategy differs from the first frame's") r
 DamageTextIsSound info (Missing gap) r = IsText (gap_text gap (codes " missing")) r
 DamageTextIsSound info (Repeated gap) r = IsText (gap_text gap (codes " repeated")) r
+DamageTextIsSound info WideSample r =
+    IsText (codes "a sample has more bits than the streaminfo says") r
+
+-- what is noted of a fixed block size that changes
+abbrev pub size_note : BlockSizes → List ℕ
+size_note sizes =
+    codes "the fixed block size changes from " ++ decimal sizes.first
+    ++ (codes " to " ++ decimal sizes.other)
+
+-- what is noted of a metadata block that isn't supported
+abbrev pub unsupported_note : UnsupportedBlock → List ℕ
+unsupported_note why = codes "not supported: " ++ block_reason why
 
 -- what a tag or zeros after the last frame are
 abbrev pub trailing_name : Trailing → List ℕ

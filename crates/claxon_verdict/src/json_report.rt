@@ -1,10 +1,10 @@
 //! What is printed of a file that was verified, as JSON (RFC 8259).
-use crate::text::{notes, place_text};
+use crate::text::{head_error_text, notes, place_text, size_note, unsupported_note};
 use crate::verdict::Verdict;
 use claxon::Error;
 use claxon_blocks::md5_verdict::Md5Verdict;
 use claxon_command_line::json::push_json_string;
-use claxon_command_line::messages::{Part, error_text};
+use claxon_command_line::text::md5_text;
 use claxon_verify::report::{Place, Report};
 use std::alloc::{AllocError, Global};
 
@@ -44,9 +44,27 @@ fn start_text(
     if let Some(samples) = report.info.samples {
         write!(&mut text, ",\"streaminfo_samples\":{samples}")?;
     }
-    let md5 = md5_word(report.md5);
-    write!(&mut text, ",\"md5\":\"{md5}\",\"places\":[")?;
+    let md5 = md5_word(report, verdict);
+    write!(&mut text, ",\"md5\":\"{md5}\"")?;
+    push_sum(alloc, &mut text, report, verdict)?;
+    text.push_str(",\"places\":[")?;
     Ok(text)
+}
+
+// The sum of all samples. Of a file with frames that aren't supported not all are hashed.
+fn push_sum(
+    alloc: Global,
+    text: &mut String,
+    report: &Report,
+    verdict: Verdict,
+) -> Result<(), AllocError> {
+    match report.computed_md5 {
+        Some(sum) if hashes_all(report, verdict) => {
+            let sum = md5_text(alloc, &sum)?;
+            write!(text, ",\"computed_md5\":\"{sum}\"")
+        }
+        _ => Ok(()),
+    }
 }
 
 fn numbers(report: &Report) -> [(&'static str, u64); 5] {
@@ -60,8 +78,16 @@ fn numbers(report: &Report) -> [(&'static str, u64); 5] {
     ]
 }
 
-fn md5_word(md5: Md5Verdict) -> &'static str {
-    match md5 {
+// Whether all samples are hashed: not those of frames that aren't supported.
+fn hashes_all(report: &Report, verdict: Verdict) -> bool {
+    !matches!(verdict, Verdict::NotSupported(_)) || report.found.places.first.is_none()
+}
+
+fn md5_word(report: &Report, verdict: Verdict) -> &'static str {
+    if !hashes_all(report, verdict) {
+        return "not computed";
+    }
+    match report.md5 {
         Md5Verdict::NotComputed => "not computed",
         Md5Verdict::Missing => "none",
         Md5Verdict::Right => "ok",
@@ -97,7 +123,7 @@ fn end_text(alloc: Global, report: &Report, verdict: Verdict) -> Result<String, 
     if left_out > 0 {
         write!(&mut text, ",\"left_out\":{left_out}")?;
     }
-    push_notes(&mut text, report)?;
+    push_notes(alloc, &mut text, report, verdict)?;
     if let Verdict::NotSupported(reason) = verdict {
         push_reason(&mut text, reason)?;
     }
@@ -105,7 +131,17 @@ fn end_text(alloc: Global, report: &Report, verdict: Verdict) -> Result<String, 
     Ok(text)
 }
 
-fn push_notes(text: &mut String, report: &Report) -> Result<(), AllocError> {
+// Whether a metadata block is the reason why a file isn't supported.
+fn is_reason(report: &Report, verdict: Verdict) -> bool {
+    matches!(verdict, Verdict::NotSupported(_)) && report.found.places.first.is_none()
+}
+
+fn push_notes(
+    alloc: Global,
+    text: &mut String,
+    report: &Report,
+    verdict: Verdict,
+) -> Result<(), AllocError> {
     text.push_str(",\"notes\":[")?;
     let mut before = "";
     for (is_so, note) in notes(report) {
@@ -114,6 +150,18 @@ fn push_notes(text: &mut String, report: &Report) -> Result<(), AllocError> {
             push_json_string(text, note)?;
             before = ",";
         }
+    }
+    if let Some(sizes) = report.found.notes.changed_block_size {
+        text.push_str(before)?;
+        push_json_string(text, size_note(alloc, sizes)?.as_str())?;
+        before = ",";
+    }
+    match report.unsupported {
+        Some(why) if !is_reason(report, verdict) => {
+            text.push_str(before)?;
+            push_json_string(text, unsupported_note(alloc, why)?.as_str())?;
+        }
+        _ => {}
     }
     text.push_str("]")
 }
@@ -128,7 +176,7 @@ pub fn error_object(
     match verdict {
         Verdict::NotSupported(reason) => object(alloc, name, verdict, reason),
         _ => {
-            let reason = error_text(alloc, Part::Head, error)?;
+            let reason = head_error_text(alloc, error)?;
             object(alloc, name, verdict, reason.as_str())
         }
     }

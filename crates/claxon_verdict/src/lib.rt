@@ -1,9 +1,11 @@
 //! What is said of a stream that was verified: the verdict, lines of text and JSON objects, and their printing.
 #![tactic(auto)]
 
+pub mod container;
 pub mod json_report;
 pub mod print;
 #[cfg(test)]
 mod reports;
+pub mod tally;
 pub mod text;
 pub mod verdict;

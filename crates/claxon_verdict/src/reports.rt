@@ -5,7 +5,9 @@ use claxon::metadata::StreamInfo;
 use claxon::running::Running;
 use claxon_blocks::frames::{FirstBytes, FrameError};
 use claxon_blocks::md5_verdict::Md5Verdict;
-use claxon_verify::report::{Damage, Found, Gap, Notes, Place, Places, Report, Trailing};
+use claxon_verify::report::{
+    BlockSizes, Damage, Found, Gap, Notes, Place, Places, Report, Trailing, UnsupportedBlock,
+};
 use std::alloc::{AllocError, Global};
 
 const INFO: StreamInfo = StreamInfo {
@@ -24,12 +26,17 @@ const NO_NOTES: Notes = Notes {
     has_other_block_size: false,
     has_other_frame_size: false,
     has_byte_left: false,
+    changed_block_size: None,
 };
+
+// The sum of its samples.
+const SUM: [u8; 16] = [1, 2, 3, 4, 5, 6, 7, 8, 9, 10, 11, 12, 13, 14, 15, 0xf0];
 
 // A stream of so many frames and samples, in which these places aren't right.
 fn report(counts: (u64, u64), places: Places, md5: Md5Verdict, is_right: bool) -> Report {
     Report {
         info: INFO,
+        unsupported: None,
         found: Found {
             frames: counts.0,
             samples: counts.1,
@@ -37,6 +44,7 @@ fn report(counts: (u64, u64), places: Places, md5: Md5Verdict, is_right: bool) -
             notes: NO_NOTES,
         },
         md5,
+        computed_md5: Some(SUM),
         trailing: None,
         is_right,
     }
@@ -67,6 +75,7 @@ pub fn unusual(alloc: Global) -> Report {
             samples: None,
             ..INFO
         },
+        unsupported: None,
         found: Found {
             frames: 300,
             samples: 1_228_800,
@@ -75,9 +84,14 @@ pub fn unusual(alloc: Global) -> Report {
                 has_other_block_size: true,
                 has_other_frame_size: true,
                 has_byte_left: true,
+                changed_block_size: Some(BlockSizes {
+                    first: 4096,
+                    other: 1024,
+                }),
             },
         },
         md5: Md5Verdict::Missing,
+        computed_md5: Some(SUM),
         trailing: None,
         is_right: true,
     }
@@ -162,6 +176,7 @@ pub fn more_places(
     more.push(place((9000, 9128), (1_224_704, 1_224_704), damage))?;
     Ok(Report {
         info: INFO,
+        unsupported: None,
         found: Found {
             frames: 299,
             samples: 1_224_704,
@@ -173,9 +188,24 @@ pub fn more_places(
             notes: NO_NOTES,
         },
         md5: Md5Verdict::Wrong,
+        computed_md5: Some(SUM),
         trailing,
         is_right: false,
     })
+}
+
+/// The right stream, and the one with a place, with a tag that has no `=`.
+pub fn without_separator(alloc: Global, is_damaged: bool) -> Report {
+    let report = if is_damaged {
+        one_place(alloc)
+    } else {
+        right(alloc)
+    };
+    Report {
+        unsupported: Some(UnsupportedBlock::NoSeparator),
+        is_right: false,
+        ..report
+    }
 }
 
 /// A stream of frames with 32 bits a sample.

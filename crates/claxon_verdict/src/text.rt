@@ -1,37 +1,45 @@
 //! What is printed of a file that was verified, as text.
-ghost use Rattle.std.specs.Prelude.{◌≡◌};
+ghost use Rattle.std.specs.Prelude.{◌≡◌, ◌↔◌, IsTrue};
+ghost use Rattle.claxon.specs.Error.{IsFault};
+ghost use Rattle.claxon.specs.Fault.{StreamMarker};
 ghost use Rattle.claxon_verdict.specs.Verdict.{
   DamageTextIsSound,
   FrameErrorTextIsSound,
+  HeadErrorTextIsSound,
   gap_text,
+  size_note,
   trailing_name,
   trailing_text,
+  unsupported_note,
 };
 ghost use Rattle.claxon_command_line.specs.Text.{IsText};
 
-use crate::verdict::Verdict;
+use crate::verdict::{Verdict, block_reason};
 use claxon::Error;
 use claxon::metadata::StreamInfo;
 use claxon_blocks::frames::{FrameError, UNSUPPORTED_32_BIT};
 use claxon_blocks::md5_verdict::Md5Verdict;
 use claxon_command_line::messages::{Part, error_text};
 use claxon_command_line::text::count_text;
-use claxon_verify::report::{Damage, Found, Gap, Place, Places, Report, Trailing};
+use claxon_verify::report::{
+    BlockSizes, Damage, Found, Gap, Place, Places, Report, Trailing, UnsupportedBlock,
+};
 use std::alloc::{AllocError, Global};
 
 #[cfg(test)]
 mod tests;
 
-/// The line of a file with a report, without its name.
+/// The line of a file with a report, without its name. If it `is_brief` it has the first place, which else has its own line.
 pub fn verdict_text(
     alloc: Global,
     report: &Report,
     verdict: Verdict,
+    is_brief: bool,
 ) -> Result<String, AllocError> {
     match verdict {
         Verdict::Right => right_text(alloc, report),
         Verdict::NotSupported(reason) => format!(in alloc; "not supported, {reason}"),
-        Verdict::Wrong | Verdict::NotRead => wrong_text(alloc, report),
+        Verdict::Wrong | Verdict::NotRead => wrong_text(alloc, report, is_brief),
     }
 }
 
@@ -40,8 +48,25 @@ pub fn head_text(alloc: Global, error: &Error, verdict: Verdict) -> Result<Strin
     if let Verdict::NotSupported(reason) = verdict {
         return format!(in alloc; "not supported, {reason}");
     }
-    let text = error_text(alloc, Part::Head, error)?;
+    let text = head_error_text(alloc, error)?;
     format!(in alloc; "wrong, {text}")
+}
+
+/// What is wrong with a head.
+pub fn head_error_text(alloc: Global, error: &Error) -> Result<String, AllocError>
+    ensures is_sound { HeadErrorTextIsSound error.now result }
+{
+    if is_other_file(error) {
+        return String::from_str(alloc, "not a FLAC file");
+    }
+    error_text(alloc, Part::Head, error)
+}
+
+// Whether the error says that a file doesn't begin as a FLAC file does.
+fn is_other_file(error: &Error) -> bool
+    ensures { IsTrue result ↔ IsFault StreamMarker error.now }
+{
+    matches!(error, Error::FormatError("invalid stream header"))
 }
 
 fn right_text(alloc: Global, report: &Report) -> Result<String, AllocError> {
@@ -52,10 +77,14 @@ fn right_text(alloc: Global, report: &Report) -> Result<String, AllocError> {
             write!(&mut text, ", {note}")?;
         }
     }
+    if let Some(sizes) = report.found.notes.changed_block_size {
+        let note = size_note(alloc, sizes)?;
+        write!(&mut text, ", {note}")?;
+    }
     Ok(text)
 }
 
-/// What is unusual in a stream, but not wrong, and whether it is so.
+/// What is unusual in a stream, but not wrong, and whether it is so. `size_note` isn't among them.
 pub fn notes(report: &Report) -> [(bool, &'static str); 5] {
     let notes = report.found.notes;
     [
@@ -73,18 +102,55 @@ pub fn notes(report: &Report) -> [(bool, &'static str); 5] {
     ]
 }
 
-fn wrong_text(alloc: Global, report: &Report) -> Result<String, AllocError> {
+/// What is noted of a fixed block size that changes.
+pub fn size_note(alloc: Global, sizes: BlockSizes) -> Result<String, AllocError>
+    ensures is_text { IsText (size_note sizes) result }
+{
+    let BlockSizes { first, other } = sizes;
+    format!(in alloc; "the fixed block size changes from {first} to {other}")
+}
+
+/// What is noted of a metadata block that isn't supported.
+pub fn unsupported_note(alloc: Global, why: UnsupportedBlock) -> Result<String, AllocError>
+    ensures is_text { IsText (unsupported_note why) result }
+{
+    let reason = block_reason(why);
+    format!(in alloc; "not supported: {reason}")
+}
+
+fn wrong_text(alloc: Global, report: &Report, is_brief: bool) -> Result<String, AllocError> {
     let mut text = String::from_str(alloc, "wrong")?;
     push_counts(alloc, &mut text, &report.found)?;
     let is_expected = push_expected(&mut text, report)?;
     match &report.found.places.first {
-        Some(first) => push_places(alloc, &mut text, report, first)?,
+        Some(first) => {
+            push_unsupported(alloc, &mut text, report)?;
+            let total = places_total(&report.found.places);
+            push_count(alloc, &mut text, ", ", total, "place")?;
+            if is_brief {
+                push_first_place(alloc, &mut text, report, first)?;
+            }
+        }
         None if is_expected && matches!(report.md5, Md5Verdict::Wrong) => {
             text.push_str(", but their MD5 sum isn't that of the streaminfo")?;
         }
         None => {}
     }
+    if report.found.places.first.is_none() {
+        push_unsupported(alloc, &mut text, report)?;
+    }
     Ok(text)
+}
+
+// Adds the metadata block that isn't supported, if there is one.
+fn push_unsupported(alloc: Global, text: &mut String, report: &Report) -> Result<(), AllocError> {
+    match report.unsupported {
+        Some(why) => {
+            let note = unsupported_note(alloc, why)?;
+            write!(text, ", {note}")
+        }
+        None => Ok(()),
+    }
 }
 
 fn push_counts(alloc: Global, text: &mut String, found: &Found) -> Result<(), AllocError> {
@@ -103,16 +169,14 @@ fn push_expected(text: &mut String, report: &Report) -> Result<bool, AllocError>
     }
 }
 
-// Adds the number of places, and what the first of them is.
-fn push_places(
+// Adds what the first place is.
+fn push_first_place(
     alloc: Global,
     text: &mut String,
     report: &Report,
     first: &Place,
 ) -> Result<(), AllocError> {
-    let total = places_total(&report.found.places);
-    push_count(alloc, text, ", ", total, "place")?;
-    if total > 1 {
+    if places_total(&report.found.places) > 1 {
         text.push_str(", the first")?;
     }
     let (byte, what) = (first.start_byte, place_text(alloc, report, 0, first)?);
@@ -218,6 +282,9 @@ fn damage_text(alloc: Global, info: &StreamInfo, damage: &Damage) -> Result<Stri
         ),
         Damage::Missing(gap) => gap_text(alloc, *gap, " missing"),
         Damage::Repeated(gap) => gap_text(alloc, *gap, " repeated"),
+        Damage::WideSample => {
+            String::from_str(alloc, "a sample has more bits than the streaminfo says")
+        }
     }
 }
 

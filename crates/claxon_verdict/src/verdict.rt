@@ -4,11 +4,13 @@ ghost use Rattle.claxon.specs.Error.{IsFault};
 ghost use Rattle.claxon.specs.Fault.{Id3Header, SampleRate, SideTooWide};
 ghost use Rattle.claxon_verdict.specs.Verdict.{
   ErrorVerdictIsSound,
+  HasSoundFrames,
   IsUnread,
   IsUnsupportedFrame,
   IsUnsupportedHead,
   IsWorst,
   ReportVerdictIsSound,
+  block_reason,
   outcome_of,
   status_of,
 };
@@ -17,7 +19,8 @@ use claxon::Error;
 use claxon::fault_texts::{ID3_HEADER, INVALID_SAMPLE_RATE, SIDE_TOO_WIDE};
 use claxon::metadata::StreamInfo;
 use claxon_blocks::frames::FrameError;
-use claxon_verify::report::{Damage, Report};
+use claxon_verify::has_nothing_wrong;
+use claxon_verify::report::{Damage, Report, UnsupportedBlock};
 use std::io::ErrorKind;
 
 /// What is said of a file.
@@ -34,22 +37,29 @@ pub enum Verdict {
 }
 
 impl Verdict {
-    /// What is said of a stream with this report.
+    /// What is said of a stream with this report. If a read failed after damage was found, the stream is wrong.
     pub fn of_report(report: &Report) -> Verdict
         ensures is_sound { ReportVerdictIsSound report.now result }
     {
         if report.is_right {
             return Verdict::Right;
         }
+        if let (Some(why), true) = (report.unsupported, has_sound_frames(report)) {
+            return Verdict::NotSupported(block_reason(why));
+        }
         let Some(first) = &report.found.places.first else {
             return Verdict::Wrong;
         };
-        match &first.damage {
-            Damage::Fault(fault) if is_unsupported_frame(&report.info, fault) => {
-                Verdict::NotSupported(frame_reason(fault))
-            }
-            _ => Verdict::Wrong,
+        let Damage::Fault(fault) = &first.damage else {
+            return Verdict::Wrong;
+        };
+        if is_unread(&fault.error) {
+            return Verdict::NotRead;
         }
+        if is_unsupported_frame(&report.info, fault) {
+            return Verdict::NotSupported(frame_reason(fault));
+        }
+        Verdict::Wrong
     }
 
     /// What is said of a file that gave this error in place of a report.
@@ -74,6 +84,28 @@ impl Verdict {
             Verdict::NotSupported(_) => Outcome::NotSupported,
             Verdict::Wrong | Verdict::NotRead => Outcome::Wrong,
         }
+    }
+}
+
+// Whether nothing is wrong, but that some of the metadata may not be supported.
+fn has_sound_frames(report: &Report) -> bool
+    ensures { IsTrue result ↔ HasSoundFrames report.now }
+{
+    has_nothing_wrong(&report.found, report.info.samples, report.md5)
+}
+
+/// What isn't supported of a metadata block.
+pub fn block_reason(why: UnsupportedBlock) -> &'static str
+    ensures is_reason { result.now ≡ block_reason why }
+{
+    match why {
+        UnsupportedBlock::SecondComments => "a second Vorbis comment block",
+        UnsupportedBlock::NotUtf8 => "a tag or vendor string that isn't UTF-8",
+        UnsupportedBlock::NoSeparator => "a tag without '='",
+        UnsupportedBlock::FieldName => "a tag's name with a byte other than 0x20 to 0x7d",
+        UnsupportedBlock::BytesLeft => "bytes after the last tag",
+        UnsupportedBlock::LargeComments => "Vorbis comment blocks larger than 10 MiB",
+        UnsupportedBlock::LargeApplication => "application blocks larger than 10 MiB",
     }
 }
 

@@ -12,10 +12,10 @@ use Rattle.claxon_verify.specs.declared.order.Order.{Order}
 
 -- ---- one frame more
 
-pub in_order_push : (info : Streaminfo) (before frames : List FrameValue) (frame : FrameValue) → AreNextAfter info before frames → IsNextAfter info (before ++ frames) frame.info → AreNextAfter info before (frames ++ frame ∷ [])
-in_order_push info before [] frame are is = (subst (λ (fs : List FrameValue). IsNextAfter info fs frame.info) (append-nil before) is, tt)
+pub in_order_push : (info : Streaminfo) (before frames : List FrameValue) (frame : FrameValue) → AreNextAfter info before frames → IsNextAfter info (before ++ frames) frame → AreNextAfter info before (frames ++ frame ∷ [])
+in_order_push info before [] frame are is = (subst (λ (fs : List FrameValue). IsNextAfter info fs frame) (append-nil before) is, tt)
 in_order_push info before (f ∷ frames) frame are is =
-    (are.0, in_order_push info (before ++ f ∷ []) frames frame are.1 (subst (λ (fs : List FrameValue). IsNextAfter info fs frame.info) (sym (append_assoc before (f ∷ []) frames)) is))
+    (are.0, in_order_push info (before ++ f ∷ []) frames frame are.1 (subst (λ (fs : List FrameValue). IsNextAfter info fs frame) (sym (append_assoc before (f ∷ []) frames)) is))
 
 -- the order after these frames
 pub record IsOrderAfter (frames : List FrameValue) (order : Order) : Type 0 where
@@ -30,7 +30,7 @@ number_small : (v : Bool) (frames : List FrameValue) → length frames < 2 ^ 64 
 number_small true frames few small = small
 number_small false frames few small = few
 
-pub order_after : (info : Streaminfo) (frames : List FrameValue) (frame : FrameValue) (old new : Order) → IsOrderAfter frames old → IsNextAfter info frames frame.info → GoesOn (frame_duration frame) frame.info old new
+pub order_after : (info : Streaminfo) (frames : List FrameValue) (frame : FrameValue) (old new : Order) → IsOrderAfter frames old → IsNextAfter info frames frame → GoesOn (frame_duration frame) frame.info old new
     → length (frames ++ frame ∷ []) < 2 ^ 64 → sum_by frame_duration (frames ++ frame ∷ []) < 2 ^ 64 → IsOrderAfter (frames ++ frame ∷ []) new
 order_after info [] frame old new is next goes few small =
     let v = frame.info.is_variable in

@@ -5,7 +5,6 @@ use Rattle.std.specs.List.{sum_by}
 use Rattle.std.proofs.lemmas.Bool.{false≢true}
 use Rattle.std.proofs.lemmas.List.{append-nil, append_cancel_left}
 use Rattle.std.proofs.lemmas.List.Sums.{sum_by-append, sum_by-cons}
-use Rattle.claxon.specs.BlockInfos.{BlockInfo}
 use Rattle.claxon.specs.DecodedFrame.{FrameValue, FrameWithHeader}
 use Rattle.claxon.specs.Errors.{Error}
 use Rattle.claxon.specs.Error.{IsFault}
@@ -21,7 +20,7 @@ use Rattle.claxon_verify.specs.Verify.{AreTooMany, CanBeCounted, Counted, Counts
 use Rattle.claxon_blocks.specs.Frames.{IsNotWhole}
 use Rattle.claxon_blocks.specs.declared.frames.FrameError.{FrameError}
 use Rattle.claxon_verify.specs.declared.report.Damage.{Damage}
-use Rattle.claxon_verify.specs.declared.report.Damage.TheVariants.{BitDepth, BlockingStrategy, Channels, Fault as FaultDamage, Missing, Repeated, SampleRate}
+use Rattle.claxon_verify.specs.declared.report.Damage.TheVariants.{BitDepth, BlockingStrategy, Channels, Fault as FaultDamage, Missing, Repeated, SampleRate, WideSample}
 use Rattle.claxon_verify.specs.declared.report.Gap.{Gap}
 use Rattle.claxon_verify.specs.declared.report.Place.{Place}
 use Rattle.claxon_blocks.proofs.FirstBytes.{refused}
@@ -101,16 +100,17 @@ same_gap a b e f = ap₂ (λ (n : ℕ) (v : Bool). record { count = n; is_variab
 same_some : (n m : ℕ) → Some n ≡ Some m → n ≡ m
 same_some n m e = cc
 
-module _ (info : Streaminfo) (strategy : Option Bool) (number : ℕ) (frame : BlockInfo) where
+module _ (info : Streaminfo) (strategy : Option Bool) (number : ℕ) (frame : FrameValue) where
   -- it isn't the next one
   pub not_next : (d : Damage) → IsNotNext info strategy number frame d → IsNext info strategy number frame → ⊥
   not_next (FaultDamage e) x y = x
   not_next (Channels n) x y = x.1 (x.0 ∙ y.0.0)
   not_next (BitDepth n) x y = x.2 (x.1 ∙ y.0.1)
-  not_next (SampleRate n) x y = other_rate frame.sample_rate n info.rate x.2 x.3 y.0.2
-  not_next BlockingStrategy x y = other_strategy strategy frame.is_variable x.1 y.1
+  not_next (SampleRate n) x y = other_rate frame.info.sample_rate n info.rate x.2 x.3 y.0.2
+  not_next BlockingStrategy x y = other_strategy strategy frame.info.is_variable x.1 y.1
   not_next (Missing gap) x y = omega (arith, x.2.count, x.2.some, y.2)
   not_next (Repeated gap) x y = omega (arith, x.2.count, x.2.some, y.2)
+  not_next WideSample x y = x.3 y.3
 
   -- and that has one reason
   pub same_damage : (d e : Damage) → IsNotNext info strategy number frame d → IsNotNext info strategy number frame e → SameDamage d e
@@ -122,6 +122,7 @@ module _ (info : Streaminfo) (strategy : Option Bool) (number : ℕ) (frame : Bl
   same_damage (Channels n) BlockingStrategy x y = absurd (x.1 (x.0 ∙ y.0.0))
   same_damage (Channels n) (Missing m) x y = absurd (x.1 (x.0 ∙ y.0.0))
   same_damage (Channels n) (Repeated m) x y = absurd (x.1 (x.0 ∙ y.0.0))
+  same_damage (Channels n) WideSample x y = absurd (x.1 (x.0 ∙ y.0.0))
   same_damage (BitDepth n) (FaultDamage e) x y = absurd y
   same_damage (BitDepth n) (Channels m) x y = absurd (y.1 (y.0 ∙ x.0))
   same_damage (BitDepth n) (BitDepth m) x y = x.1 ∙ sym y.1
@@ -129,34 +130,47 @@ module _ (info : Streaminfo) (strategy : Option Bool) (number : ℕ) (frame : Bl
   same_damage (BitDepth n) BlockingStrategy x y = absurd (x.2 (x.1 ∙ y.0.1))
   same_damage (BitDepth n) (Missing m) x y = absurd (x.2 (x.1 ∙ y.0.1))
   same_damage (BitDepth n) (Repeated m) x y = absurd (x.2 (x.1 ∙ y.0.1))
+  same_damage (BitDepth n) WideSample x y = absurd (x.2 (x.1 ∙ y.0.1))
   same_damage (SampleRate n) (FaultDamage e) x y = absurd y
   same_damage (SampleRate n) (Channels m) x y = absurd (y.1 (y.0 ∙ x.0))
   same_damage (SampleRate n) (BitDepth m) x y = absurd (y.2 (y.1 ∙ x.1))
   same_damage (SampleRate n) (SampleRate m) x y = same_some n m (sym x.2 ∙ y.2)
-  same_damage (SampleRate n) BlockingStrategy x y = absurd (other_rate frame.sample_rate n info.rate x.2 x.3 y.0.2)
-  same_damage (SampleRate n) (Missing m) x y = absurd (other_rate frame.sample_rate n info.rate x.2 x.3 y.0.2)
-  same_damage (SampleRate n) (Repeated m) x y = absurd (other_rate frame.sample_rate n info.rate x.2 x.3 y.0.2)
+  same_damage (SampleRate n) BlockingStrategy x y = absurd (other_rate frame.info.sample_rate n info.rate x.2 x.3 y.0.2)
+  same_damage (SampleRate n) (Missing m) x y = absurd (other_rate frame.info.sample_rate n info.rate x.2 x.3 y.0.2)
+  same_damage (SampleRate n) (Repeated m) x y = absurd (other_rate frame.info.sample_rate n info.rate x.2 x.3 y.0.2)
+  same_damage (SampleRate n) WideSample x y = absurd (other_rate frame.info.sample_rate n info.rate x.2 x.3 y.0.2)
   same_damage BlockingStrategy (FaultDamage e) x y = absurd y
   same_damage BlockingStrategy (Channels m) x y = absurd (y.1 (y.0 ∙ x.0.0))
   same_damage BlockingStrategy (BitDepth m) x y = absurd (y.2 (y.1 ∙ x.0.1))
-  same_damage BlockingStrategy (SampleRate m) x y = absurd (other_rate frame.sample_rate m info.rate y.2 y.3 x.0.2)
+  same_damage BlockingStrategy (SampleRate m) x y = absurd (other_rate frame.info.sample_rate m info.rate y.2 y.3 x.0.2)
   same_damage BlockingStrategy BlockingStrategy x y = tt
-  same_damage BlockingStrategy (Missing m) x y = absurd (other_strategy strategy frame.is_variable x.1 y.1)
-  same_damage BlockingStrategy (Repeated m) x y = absurd (other_strategy strategy frame.is_variable x.1 y.1)
+  same_damage BlockingStrategy (Missing m) x y = absurd (other_strategy strategy frame.info.is_variable x.1 y.1)
+  same_damage BlockingStrategy (Repeated m) x y = absurd (other_strategy strategy frame.info.is_variable x.1 y.1)
+  same_damage BlockingStrategy WideSample x y = absurd (other_strategy strategy frame.info.is_variable x.1 y.1)
   same_damage (Missing n) (FaultDamage e) x y = absurd y
   same_damage (Missing n) (Channels m) x y = absurd (y.1 (y.0 ∙ x.0.0))
   same_damage (Missing n) (BitDepth m) x y = absurd (y.2 (y.1 ∙ x.0.1))
-  same_damage (Missing n) (SampleRate m) x y = absurd (other_rate frame.sample_rate m info.rate y.2 y.3 x.0.2)
-  same_damage (Missing n) BlockingStrategy x y = absurd (other_strategy strategy frame.is_variable y.1 x.1)
+  same_damage (Missing n) (SampleRate m) x y = absurd (other_rate frame.info.sample_rate m info.rate y.2 y.3 x.0.2)
+  same_damage (Missing n) BlockingStrategy x y = absurd (other_strategy strategy frame.info.is_variable y.1 x.1)
   same_damage (Missing n) (Missing m) x y = same_gap n m (omega (arith, x.2.count, y.2.count)) (x.2.unit ∙ sym y.2.unit)
   same_damage (Missing n) (Repeated m) x y = absurd (omega (arith, x.2.count, x.2.some, y.2.count))
+  same_damage (Missing n) WideSample x y = absurd (omega (arith, x.2.count, x.2.some, y.2))
   same_damage (Repeated n) (FaultDamage e) x y = absurd y
   same_damage (Repeated n) (Channels m) x y = absurd (y.1 (y.0 ∙ x.0.0))
   same_damage (Repeated n) (BitDepth m) x y = absurd (y.2 (y.1 ∙ x.0.1))
-  same_damage (Repeated n) (SampleRate m) x y = absurd (other_rate frame.sample_rate m info.rate y.2 y.3 x.0.2)
-  same_damage (Repeated n) BlockingStrategy x y = absurd (other_strategy strategy frame.is_variable y.1 x.1)
+  same_damage (Repeated n) (SampleRate m) x y = absurd (other_rate frame.info.sample_rate m info.rate y.2 y.3 x.0.2)
+  same_damage (Repeated n) BlockingStrategy x y = absurd (other_strategy strategy frame.info.is_variable y.1 x.1)
   same_damage (Repeated n) (Missing m) x y = absurd (omega (arith, y.2.count, y.2.some, x.2.count))
   same_damage (Repeated n) (Repeated m) x y = same_gap n m (omega (arith, x.2.count, y.2.count)) (x.2.unit ∙ sym y.2.unit)
+  same_damage (Repeated n) WideSample x y = absurd (omega (arith, x.2.count, x.2.some, y.2))
+  same_damage WideSample (FaultDamage e) x y = absurd y
+  same_damage WideSample (Channels m) x y = absurd (y.1 (y.0 ∙ x.0.0))
+  same_damage WideSample (BitDepth m) x y = absurd (y.2 (y.1 ∙ x.0.1))
+  same_damage WideSample (SampleRate m) x y = absurd (other_rate frame.info.sample_rate m info.rate y.2 y.3 x.0.2)
+  same_damage WideSample BlockingStrategy x y = absurd (other_strategy strategy frame.info.is_variable y.1 x.1)
+  same_damage WideSample (Missing m) x y = absurd (omega (arith, y.2.count, y.2.some, x.2))
+  same_damage WideSample (Repeated m) x y = absurd (omega (arith, y.2.count, y.2.some, x.2))
+  same_damage WideSample WideSample x y = tt
 
 -- ---- bytes are one list of frames and faults
 
@@ -244,7 +258,7 @@ module _ (stream : Option StreamFormat) (bit_depth : IsBitDepth (known_bit_depth
   module _ (info : Streaminfo) where
     -- a frame that isn't the next one after these
     abbrev IsOther : List FrameValue → List ℕ → Damage → Type 0
-    IsOther before m d = (frame : FrameValue) × BeginsWith (FrameWithHeader stream frame) m × IsNotNext info (strategy_after before) (number_after before) frame.info d
+    IsOther before m d = (frame : FrameValue) × BeginsWith (FrameWithHeader stream frame) m × IsNotNext info (strategy_after before) (number_after before) frame d
 
     -- a fault
     abbrev IsBad : Type 0 → List ℕ → Damage → Type 0
@@ -259,15 +273,16 @@ module _ (stream : Option StreamFormat) (bit_depth : IsBitDepth (known_bit_depth
     damage_is before m BlockingStrategy h = inr h
     damage_is before m (Missing gap) h = inr h
     damage_is before m (Repeated gap) h = inr h
+    damage_is before m WideSample h = inr h
 
     -- m begins with no frame that is the next one after these
     abbrev NoNext : List FrameValue → List ℕ → Type 0
-    NoNext before m = (frame : FrameValue) (t u : List ℕ) → FrameWithHeader stream frame t → m ≡ t ++ u → IsNextAfter info before frame.info → ⊥
+    NoNext before m = (frame : FrameValue) (t u : List ℕ) → FrameWithHeader stream frame t → m ≡ t ++ u → IsNextAfter info before frame → ⊥
 
     other_no_next : (before : List FrameValue) (m : List ℕ) (d : Damage) → IsOther before m d → NoNext before m
     other_no_next before m d h = λ frame t u c is next.
         let k = one_frame h.0 frame h.1.0 t h.1.1 u h.1.2 c (sym h.1.3 ∙ is) in
-        not_next info (strategy_after before) (number_after before) frame.info d (subst (λ (f : FrameValue). IsNotNext info (strategy_after before) (number_after before) f.info d) k.0 h.2) next
+        not_next info (strategy_after before) (number_after before) frame d (subst (λ (f : FrameValue). IsNotNext info (strategy_after before) (number_after before) f d) k.0 h.2) next
 
     damage_no_next : {failed : Type 0} (before : List FrameValue) (m : List ℕ) (d : Damage) → IsDamageAt failed stream info before m d → NoNext before m ⊎ failed
     damage_no_next before m d h = elim (damage_is before m d h) [
@@ -311,8 +326,8 @@ module _ (stream : Option StreamFormat) (bit_depth : IsBitDepth (known_bit_depth
         ]
         | inr other ↦ (
             let k = one_frame frame.0 other.0 frame.1.0 other.1.0 frame.1.1 other.1.1 frame.1.2 other.1.2 (sym frame.1.3 ∙ other.1.3) in
-            let is = subst (λ (f : FrameValue). IsNotNext info (strategy_after before) (number_after before) f.info d) k.0 frame.2 in
-            inl (same_damage info (strategy_after before) (number_after before) other.0.info d e is other.2)
+            let is = subst (λ (f : FrameValue). IsNotNext info (strategy_after before) (number_after before) f d) k.0 frame.2 in
+            inl (same_damage info (strategy_after before) (number_after before) other.0 d e is other.2)
             )
       ]
     ]
@@ -322,8 +337,8 @@ module _ (stream : Option StreamFormat) (bit_depth : IsBitDepth (known_bit_depth
     -- frames in order after these, up to where none is the next one
     same_frames : (s m n : List ℕ) (done before others : List FrameValue) → DecodedFrames stream s before m → AreNextAfter info done before → NoNext (done ++ before) m → DecodedFrames stream s others n → AreNextAfter info done others → NoNext (done ++ others) n → (before ≡ others) × (m ≡ n)
     same_frames s m n done [] [] d a x f b y = (refl, sym d ∙ f)
-    same_frames s m n done [] (q ∷ others) d a x f b y = absurd (x q f.0 f.1 f.2 (sym d ∙ f.3) (subst (λ (z : List FrameValue). IsNextAfter info z q.info) (sym (append-nil done)) b.0))
-    same_frames s m n done (p ∷ before) [] d a x f b y = absurd (y p d.0 d.1 d.2 (sym f ∙ d.3) (subst (λ (z : List FrameValue). IsNextAfter info z p.info) (sym (append-nil done)) a.0))
+    same_frames s m n done [] (q ∷ others) d a x f b y = absurd (x q f.0 f.1 f.2 (sym d ∙ f.3) (subst (λ (z : List FrameValue). IsNextAfter info z q) (sym (append-nil done)) b.0))
+    same_frames s m n done (p ∷ before) [] d a x f b y = absurd (y p d.0 d.1 d.2 (sym f ∙ d.3) (subst (λ (z : List FrameValue). IsNextAfter info z p) (sym (append-nil done)) a.0))
     same_frames s m n done (p ∷ before) (q ∷ others) d a x f b y =
         let k = one_frame p q d.0 f.0 d.1 f.1 d.2 f.2 (sym d.3 ∙ f.3) in
         let l : d.1 ≡ f.1 = append_cancel_left d.0 d.1 f.1 (sym d.3 ∙ f.3 ∙ ap (λ (z : List ℕ). z ++ f.1) (sym k.1)) in

@@ -1,5 +1,5 @@
 -- Frames and faults that are found, one after another.
-use Rattle.std.proofs.Common.{◌≡◌, ◌⊎◌, ◌<◌, ◌≤◌, ◌+◌, ◌%◌, ◌^◌, ℕ, true, false, List, [], ◌∷◌, ◌++◌, length, inl, inr, refl, sym, ap, arith, subst, ◌∙◌, length-append}
+use Rattle.std.proofs.Common.{◌≡◌, ◌⊎◌, ◌<◌, ◌≤◌, ◌+◌, ◌%◌, ◌^◌, ℕ, true, false, List, [], ◌∷◌, ◌++◌, length, inl, inr, refl, sym, ap, arith, subst, ◌∙◌, length-append, zero-add, append_assoc, cond}
 use Rattle.std.specs.Prelude.{Bool, IsTrue, Option, None, Some, Ok, Err, Result, ◌↔◌}
 use Rattle.std.specs.List.{sum_by}
 use Rattle.std.proofs.lemmas.Grind.{flat_map-append}
@@ -15,11 +15,11 @@ use Rattle.claxon.specs.Errors.TheVariants.{FormatError, IoError, OutOfMemory, U
 use Rattle.claxon.specs.Fault.{Fault}
 use Rattle.claxon.specs.Frame.{FrameBytesFault, StreamFormat}
 use Rattle.claxon.specs.FrameReader.{FrameAnswer, ReadsFrame, block_view}
-use Rattle.claxon.specs.Gives.{ReadFailedIn}
+use Rattle.claxon.specs.Gives.{Consumes, IsRest, ReadFailedIn}
 use Rattle.claxon.specs.Prefix.{BeginsWith}
 use Rattle.claxon.specs.Promises.{Consumed}
 use Rattle.claxon.specs.Source.{IsKnown, Source}
-use Rattle.claxon.specs.State.{State, bytes_in, crcs_at_eof, remaining_as, RemainingIsKnown, final_crcs}
+use Rattle.claxon.specs.State.{State, bytes_in, values_at_eof, remaining_as, RemainingIsKnown, final_values}
 use Rattle.claxon.specs.Streaminfo.{Streaminfo}
 use Rattle.claxon.specs.RunningReader.{running_inner}
 use Rattle.claxon.specs.RunningReaders.{RunningReader}
@@ -30,23 +30,29 @@ use Rattle.claxon_blocks.specs.Frames.{HasHeader, Is32BitFault}
 use Rattle.claxon_verify.specs.RightStream.{AreInOrder, IsNext, IsNextAfter, bytes_of_frames, frame_duration, number_after, samples_of_frames, strategy_after}
 use Rattle.claxon_verify.specs.Verify.{FirstIs, FrameOrFault, FrameOrFaultBytes, FramesAndFaults, IsDamageAt, IsFaultAt, IsFirst, IsJudged, IsNotNext, IsTooMany, StopsCounting, counted_bytes, fault_count_of, frame_count_of, frames_of, position_of, sample_count_of}
 use Rattle.claxon_blocks.specs.Frames.{IsNotWhole}
-use Rattle.claxon_verify.specs.Walk.{AddsFault, AddsFrame, BeginAlike, PlaceBegins, BeginsWalk, EndsWalk, ExceedsCount, FirstBecomes, GoesOn, KeepsFirstPlace, WalksToEnd, first_place}
+use Rattle.claxon_verify.specs.Walk.{AddsFault, AddsFrame, CanBeLeftOut, CountsDamage, KeepsCount, count_so_far, AreSizesOf, BeginAlike, PlaceBegins, BeginsWalk, EndsWalk, ExceedsCount, FirstBecomes, GoesOn, KeepsFirstPlace, WalksToEnd, first_place}
 use Rattle.claxon_blocks.specs.HashBlock.{HashesToo}
 use Rattle.claxon_blocks.specs.Md5Verdict.{HasHashedBytes}
 use Rattle.claxon_blocks.specs.declared.frames.FrameError.{FrameError}
 use Rattle.claxon_verify.specs.declared.report.Damage.{Damage}
-use Rattle.claxon_verify.specs.declared.report.Damage.TheVariants.{BitDepth, BlockingStrategy, Channels, Fault as FaultDamage, Missing, Repeated, SampleRate}
+use Rattle.claxon_verify.specs.declared.report.Damage.TheVariants.{BitDepth, BlockingStrategy, Channels, Fault as FaultDamage, Missing, Repeated, SampleRate, WideSample}
 use Rattle.claxon_verify.specs.declared.report.Place.{Place}
 use Rattle.claxon_verify.specs.declared.BytesRead.{BytesRead}
 use Rattle.claxon_verify.specs.declared.order.Order.{Order}
+use Rattle.claxon_verify.specs.declared.sizes.SizesSoFar.{SizesSoFar}
 use Rattle.claxon_verify.specs.declared.walk.Walk.{Walk}
 use Rattle.claxon_blocks.proofs.BlockReads.{BlockIsRead, IfConsumed, block_read}
+use Rattle.claxon_verify.proofs.BlockSizes.{changed_of}
 use Rattle.claxon_verify.proofs.FramesAndFaults.{frames_of_all, parts_front, parts_push}
+use Rattle.claxon_verify.specs.declared.places.PlacesSoFar.{PlacesSoFar}
+use Rattle.std.specs.Option.{is_some}
+use Rattle.claxon_verify.specs.Places.{AreSoMany, IsFaultWith, WalksPlaces}
+use Rattle.claxon_verify.proofs.PlaceCounts.{FoundSoFar, none_found, so_many_with, with_place, without_place}
 use Rattle.claxon_verify.proofs.FrameOrder.{IsOrderAfter, in_order_push, order_after}
 
 -- ---- the position
 
-end_of : (p q : Option (List ℕ)) (m n : ℕ) (u v : List ℕ → List ℕ) → IsKnown p → IsKnown q → crcs_at_eof q (λ xs. (n + length xs) % 2 ^ 64 ∷ v xs) ≡ crcs_at_eof p (λ xs. (m + length xs) % 2 ^ 64 ∷ u xs)
+end_of : (p q : Option (List ℕ)) (m n : ℕ) (u v : List ℕ → List ℕ) → IsKnown p → IsKnown q → values_at_eof q (λ xs. (n + length xs) % 2 ^ 64 ∷ v xs) ≡ values_at_eof p (λ xs. (m + length xs) % 2 ^ 64 ∷ u xs)
     → (n + length (remaining_as (λ all. all) q)) % 2 ^ 64 ≡ (m + length (remaining_as (λ all. all) p)) % 2 ^ 64
 end_of None q m n u v k l e = absurd k
 end_of (Some all) None m n u v k l e = absurd l
@@ -59,19 +65,35 @@ end_of (Some all) (Some rest) m n u v k l e =
 after_bytes : (m n x y z : ℕ) → (n + y) % 2 ^ 64 ≡ (m + x) % 2 ^ 64 → x ≡ z + y → n % 2 ^ 64 ≡ (m + z) % 2 ^ 64
 after_bytes m n x y z e f = omega arith
 
-module _ {R : Type 0} (source : R → Source ℕ) (x y : RunningReader R BytesRead) (k : RemainingIsKnown (counted_bytes source x)) (l : RemainingIsKnown (counted_bytes source y)) (crcs : final_crcs (counted_bytes source y) ≡ final_crcs (counted_bytes source x)) where
+module _ {R : Type 0} (source : R → Source ℕ) (x y : RunningReader R BytesRead) (k : RemainingIsKnown (counted_bytes source x)) (l : RemainingIsKnown (counted_bytes source y)) (values : final_values (counted_bytes source y) ≡ final_values (counted_bytes source x)) where
   pub position_modulo : (front : List ℕ) → (counted_bytes source x).remaining ≡ front ++ (counted_bytes source y).remaining → position_of y % 2 ^ 64 ≡ (position_of x + length front) % 2 ^ 64
   unfolding bytes_in
   position_modulo front e =
       let a = source (running_inner x) in
       let b = source (running_inner y) in
-      let i = end_of a.remaining b.remaining (position_of x) (position_of y) a.crcs b.crcs k l crcs in
+      let i = end_of a.remaining b.remaining (position_of x) (position_of y) a.values b.values k l values in
       let rest : List ℕ = remaining_as (λ all. all) b.remaining in
       let f : length (remaining_as (λ all. all) a.remaining) ≡ length front + length rest = ap length e ∙ length-append front rest in
       after_bytes (position_of x) (position_of y) _ (length rest) (length front) i f
 
   pub position_after : position_of y < 2 ^ 64 → (front : List ℕ) → (counted_bytes source x).remaining ≡ front ++ (counted_bytes source y).remaining → position_of y ≡ (position_of x + length front) % 2 ^ 64
   position_after small front e = let p = position_modulo front e in omega (arith, p)
+
+-- what was consumed, and how far the position moved
+pub front_of : {R : Type 0} {P : List ℕ → List ℕ → Type 0} (source : R → Source ℕ) (x y : RunningReader R BytesRead) → Consumes (counted_bytes source x) (counted_bytes source y) P → RemainingIsKnown (counted_bytes source x)
+    → (front : List ℕ) × ((counted_bytes source x).remaining ≡ front ++ (counted_bytes source y).remaining) × (position_of y % 2 ^ 64 ≡ (position_of x + length front) % 2 ^ 64)
+unfolding bytes_in IsRest
+front_of source x y h known =
+    let k = h.known known in
+    let rest = k.rest (counted_bytes source x).remaining ([], refl) in
+    (rest.0, rest.1, position_modulo source x y known k.known k.values rest.0 rest.1)
+
+-- from the start on
+pub front_from_start : {R : Type 0} {P : List ℕ → List ℕ → Type 0} (source : R → Source ℕ) (x y : RunningReader R BytesRead) → position_of x ≡ 0 → Consumes (counted_bytes source x) (counted_bytes source y) P → RemainingIsKnown (counted_bytes source x)
+    → (front : List ℕ) × ((counted_bytes source x).remaining ≡ front ++ (counted_bytes source y).remaining) × (position_of y % 2 ^ 64 ≡ length front % 2 ^ 64)
+front_from_start source x y start h known =
+    let f = front_of source x y h known in
+    (f.0, f.1, f.2 ∙ ap (λ (n : ℕ). (n + length f.0) % 2 ^ 64) start ∙ ap (λ (n : ℕ). n % 2 ^ 64) (zero-add (length f.0)))
 
 -- ---- the frames among all
 
@@ -107,6 +129,7 @@ weaker_damage stream info before m (SampleRate n) w h = h
 weaker_damage stream info before m BlockingStrategy w h = h
 weaker_damage stream info before m (Missing gap) w h = h
 weaker_damage stream info before m (Repeated gap) w h = h
+weaker_damage stream info before m WideSample w h = h
 
 pub first_weaker : {failed more : Type 0} (stream : Option StreamFormat) (info : Streaminfo) (start : ℕ) (s : List ℕ) (p : Place) → (failed → more) → IsFirst failed stream info start s p → IsFirst more stream info start s p
 first_weaker stream info start s p w f = record {
@@ -122,7 +145,7 @@ first_weaker stream info start s p w f = record {
 }
 
 -- a frame that isn't the next one
-frame_damage : (stream : Option StreamFormat) (info : Streaminfo) (before : List FrameValue) (m : List ℕ) (frame : FrameValue) (d : Damage) → BeginsWith (FrameWithHeader stream frame) m → IsNotNext info (strategy_after before) (number_after before) frame.info d → IsDamageAt ⊥ stream info before m d
+frame_damage : (stream : Option StreamFormat) (info : Streaminfo) (before : List FrameValue) (m : List ℕ) (frame : FrameValue) (d : Damage) → BeginsWith (FrameWithHeader stream frame) m → IsNotNext info (strategy_after before) (number_after before) frame d → IsDamageAt ⊥ stream info before m d
 frame_damage stream info before m frame (FaultDamage e) begins h = absurd h
 frame_damage stream info before m frame (Channels n) begins h = (frame, begins, h)
 frame_damage stream info before m frame (BitDepth n) begins h = (frame, begins, h)
@@ -130,6 +153,7 @@ frame_damage stream info before m frame (SampleRate n) begins h = (frame, begins
 frame_damage stream info before m frame BlockingStrategy begins h = (frame, begins, h)
 frame_damage stream info before m frame (Missing gap) begins h = (frame, begins, h)
 frame_damage stream info before m frame (Repeated gap) begins h = (frame, begins, h)
+frame_damage stream info before m frame WideSample begins h = (frame, begins, h)
 
 -- ---- the walk
 
@@ -153,7 +177,9 @@ pub record SoFar {A : Type 0} (computes_md5 : Bool) (stream : Option StreamForma
   pub frames : walk.frames ≡ sum_by frame_count_of parts
   pub samples : walk.samples ≡ sum_by sample_count_of parts
   pub first : FirstSoFar stream info start s parts walk.order walk.sample walk.samples (first_place walk.places)
+  pub sizes : AreSizesOf (frames_of parts) walk.sizes
   pub hashed : HasHashedBytes computes_md5 (bytes_of_frames info.bit_depth (frames_of parts)) walk.md5
+  pub found : FoundSoFar stream start s m parts count walk.places
 
 -- So far no read of the source failed.
 pub record WalkedSoFar {A : Type 0} (computes_md5 : Bool) (stream : Option StreamFormat) (info : Streaminfo) (start : ℕ) (a b : State ℕ) (count : ℕ) (walk : Walk A) : Type 0 where
@@ -161,7 +187,7 @@ pub record WalkedSoFar {A : Type 0} (computes_md5 : Bool) (stream : Option Strea
   pub empty_reads : b.source.empty_reads ≡ a.source.empty_reads
   pub loans : b.source.loans ≡ a.source.loans
   pub known : RemainingIsKnown a → RemainingIsKnown b
-  pub crcs : RemainingIsKnown a → final_crcs b ≡ final_crcs a
+  pub values : RemainingIsKnown a → final_values b ≡ final_values a
   pub is : RemainingIsKnown a → SoFar computes_md5 stream info start a.remaining b.remaining count walk
 
 pub none_so_far : {A : Type 0} (computes_md5 : Bool) (stream : Option StreamFormat) (info : Streaminfo) (start : ℕ) (a : State ℕ) (walk : Walk A) → BeginsWalk computes_md5 walk → WalkedSoFar computes_md5 stream info start a a 0 walk
@@ -171,7 +197,7 @@ none_so_far computes_md5 stream info start a walk begins = record {
   empty_reads = refl;
   loans = refl;
   known = λ k. k;
-  crcs = λ k. refl;
+  values = λ k. refl;
   is = λ k. record {
     parts = [];
     parts_are = refl;
@@ -179,7 +205,9 @@ none_so_far computes_md5 stream info start a walk begins = record {
     frames = begins.frames_are;
     samples = begins.samples_are;
     first = subst (FirstSoFar stream info start a.remaining [] walk.order walk.sample walk.samples) (sym begins.no_place) (refl, tt, record { strategy = begins.no_strategy; number = begins.number_is }, begins.sample_is ∙ sym begins.samples_are);
+    sizes = begins.no_size;
     hashed = begins.hasher;
+    found = none_found stream start a.remaining walk.places begins.no_count begins.none_goes_on;
   };
 }
 
@@ -189,6 +217,12 @@ kept_err (IoError cause) io memory h = absurd cc
 kept_err (FormatError text) io memory h = h
 kept_err (Unsupported text) io memory h = h
 kept_err OutOfMemory io memory h = absurd cc
+
+-- so few are left out where the last place isn't yet among them
+left_out_of : {A : Type 0} (places : PlacesSoFar A) → is_some places.last ≡ true → (count : ℕ) → count_so_far places ≤ count → count < 2 ^ 64 → CanBeLeftOut places.ended
+left_out_of places some count small bound =
+    let one : (let all : ℕ = cond (is_some places.last) 1 0 in all) ≡ 1 = rw some refl in
+    omega (arith, one, small, bound)
 
 -- ---- the samples of one frame more
 
@@ -259,7 +293,7 @@ module _ {A : Type 0} {computes_md5 : Bool} {stream : Option StreamFormat} {info
           let q = keeps_first (first_place more.places) old f keeps in
           subst (FirstSoFar stream info start a.remaining parts more.order more.sample more.samples) (sym q.1) q.2
 
-      next : (order : IsOrderAfter (frames_of p.parts) walk.order) → GoesOn (frame_duration value) value.info walk.order more.order → IsNextAfter info (frames_of p.parts) value.info → sum_by fault_count_of p.parts ≡ 0 → IsOrderAfter (frames_of parts) more.order
+      next : (order : IsOrderAfter (frames_of p.parts) walk.order) → GoesOn (frame_duration value) value.info walk.order more.order → IsNextAfter info (frames_of p.parts) value → sum_by fault_count_of p.parts ≡ 0 → IsOrderAfter (frames_of parts) more.order
       next order goes is none =
           let f = frames_of_all stream p.parts a.remaining b.remaining p.parts_are none in
           let l : length (frames_of p.parts ++ value ∷ []) ≡ length (frames_of p.parts) + 1 = length-append (frames_of p.parts) (value ∷ []) in
@@ -268,12 +302,12 @@ module _ {A : Type 0} {computes_md5 : Bool} {stream : Option StreamFormat} {info
           let small : sum_by frame_duration (frames_of p.parts ++ value ∷ []) < 2 ^ 64 = omega (arith, s, f.1, p.samples, adds.samples_are, adds.samples_fit) in
           subst (λ (fs : List FrameValue). IsOrderAfter fs more.order) (sym (frames_of-append p.parts (part ∷ []))) (order_after info (frames_of p.parts) value walk.order more.order order is goes few small)
 
-      go : (old : Option Place) (damage : Option Damage) → first_place walk.places ≡ old → FirstSoFar stream info start a.remaining p.parts walk.order walk.sample walk.samples old → IsJudged info walk.order.is_variable walk.order.number value.info damage
+      go : (old : Option Place) (damage : Option Damage) → first_place walk.places ≡ old → FirstSoFar stream info start a.remaining p.parts walk.order walk.sample walk.samples old → IsJudged info walk.order.is_variable walk.order.number value damage
           → FirstBecomes damage byte walk.sample old (first_place more.places) → (damage ≡ None → GoesOn (frame_duration value) value.info walk.order more.order) → (damage ≡ None → walk.sample + frame_duration value < 2 ^ 64 → more.sample ≡ walk.sample + frame_duration value)
           → FirstSoFar stream info start a.remaining parts more.order more.sample more.samples (first_place more.places)
       go None None is so_far judged becomes goes sample =
           let order = so_far.2 in
-          let next_is : IsNextAfter info (frames_of p.parts) value.info = subst (λ (s : Option Bool). IsNext info s (number_after (frames_of p.parts)) value.info) order.strategy (subst (λ (n : ℕ). IsNext info walk.order.is_variable n value.info) order.number judged) in
+          let next_is : IsNextAfter info (frames_of p.parts) value = subst (λ (s : Option Bool). IsNext info s (number_after (frames_of p.parts)) value) order.strategy (subst (λ (n : ℕ). IsNext info walk.order.is_variable n value) order.number judged) in
           let same : walk.sample ≡ walk.samples = so_far.3 in
           let fits : walk.sample + frame_duration value < 2 ^ 64 = omega (arith, same, adds.samples_are, adds.samples_fit) in
           let faults = sum_by_push fault_count_of p.parts part in
@@ -285,24 +319,50 @@ module _ {A : Type 0} {computes_md5 : Bool} {stream : Option StreamFormat} {info
           )
       go None (Some damage) is so_far judged becomes goes sample =
           let order = so_far.2 in
-          let not_next : IsNotNext info (strategy_after (frames_of p.parts)) (number_after (frames_of p.parts)) value.info damage =
-          subst (λ (s : Option Bool). IsNotNext info s (number_after (frames_of p.parts)) value.info damage) order.strategy (subst (λ (n : ℕ). IsNotNext info walk.order.is_variable n value.info damage) order.number judged) in
+          let not_next : IsNotNext info (strategy_after (frames_of p.parts)) (number_after (frames_of p.parts)) value damage =
+          subst (λ (s : Option Bool). IsNotNext info s (number_after (frames_of p.parts)) value damage) order.strategy (subst (λ (n : ℕ). IsNotNext info walk.order.is_variable n value damage) order.number judged) in
           let place = becomes.0 in
           subst (FirstSoFar stream info start a.remaining parts more.order more.sample more.samples) (sym becomes.1)
           (new_first place walk.sample damage byte k at becomes.2 so_far.3 so_far.0 so_far.1 (frame_damage stream info (frames_of p.parts) b.remaining value damage begins not_next))
       go (Some old) None is so_far judged becomes goes sample = kept old so_far becomes
       go (Some old) (Some damage) is so_far judged becomes goes sample = kept old so_far becomes
 
-  pub frame_added : {B : Type 0} {more : Walk A} (frame : DecodedFrame B) (byte : ℕ) (c : State ℕ) → (RemainingIsKnown a → (front : List ℕ) → a.remaining ≡ front ++ b.remaining → byte ≡ (start + length front) % 2 ^ 64) → BlockIsRead stream (Ok (Some frame.block)) b c
+  -- where the next part begins
+  part_at : (k : RemainingIsKnown a) → (front : List ℕ) × (a.remaining ≡ front ++ b.remaining) × (start + length a.remaining ≡ (start + length front) + length b.remaining)
+  part_at k =
+      let p = h.is k in
+      let q = parts_front stream p.parts a.remaining b.remaining p.parts_are in
+      let l : length a.remaining ≡ length q.0 + length b.remaining = ap length q.1 ∙ length-append q.0 b.remaining in
+      (q.0, q.1, omega arith)
+
+  found_after_frame : {B : Type 0} {more : Walk A} (frame : DecodedFrame B) (byte : ℕ) (k : RemainingIsKnown a) (t n : List ℕ) → FrameWithHeader stream (decoded_view frame) t → b.remaining ≡ t ++ n → ((front : List ℕ) → a.remaining ≡ front ++ b.remaining → byte ≡ (start + length front) % 2 ^ 64) → AddsFrame info frame byte walk more → count + 1 < 2 ^ 64
+      → FoundSoFar stream start a.remaining n ((h.is k).parts ++ Ok (decoded_view frame) ∷ []) (count + 1) more.places
+  found_after_frame {more = more} frame byte k t n code joined at adds bound = go adds.damage adds.counts
+    where
+      q : (front : List ℕ) × (a.remaining ≡ front ++ b.remaining) × (start + length a.remaining ≡ (start + length front) + length b.remaining)
+      q = part_at k
+
+      part : FrameOrFault
+      part = Ok (decoded_view frame)
+
+      kept : KeepsCount walk.places more.places → FoundSoFar stream start a.remaining n ((h.is k).parts ++ part ∷ []) (count + 1) more.places
+      kept keeps = without_place (h.is k).found part t n (start + length q.0) more.places code joined q.2 (inl refl) keeps
+
+      go : (damage : Option Damage) → CountsDamage damage byte walk.places more.places → FoundSoFar stream start a.remaining n ((h.is k).parts ++ part ∷ []) (count + 1) more.places
+      go None keeps = kept keeps
+      go (Some damage) (inl keeps) = kept keeps
+      go (Some damage) (inr w) = with_place (h.is k).found part t n (start + length q.0) w.0 more.places code joined q.2 (inr (w.0, refl, w.1 ∙ at q.0 q.1)) w.3 bound
+
+  pub frame_added : {B : Type 0} {more : Walk A} (frame : DecodedFrame B) (byte : ℕ) (c : State ℕ) → count + 1 < 2 ^ 64 → (RemainingIsKnown a → (front : List ℕ) → a.remaining ≡ front ++ b.remaining → byte ≡ (start + length front) % 2 ^ 64) → BlockIsRead stream (Ok (Some frame.block)) b c
       → Consumed b c (FrameWithHeader stream (decoded_view frame)) → AddsFrame info frame byte walk more → WalkedSoFar computes_md5 stream info start a c (count + 1) more
-  frame_added {more = more} frame byte c at read consumed adds =
+  frame_added {more = more} frame byte c bound at read consumed adds =
       let part : FrameOrFault = Ok (decoded_view frame) in
       record {
         errors = read.kept.0 ∙ h.errors;
         empty_reads = read.kept.1 ∙ h.empty_reads;
         loans = read.loans ∙ h.loans;
         known = λ k. (with_frame_or_fault part c consumed k).0;
-        crcs = λ k. read.kept.2 (h.known k) ∙ h.crcs k;
+        values = λ k. read.kept.2 (h.known k) ∙ h.values k;
         is = λ k.
             let p = h.is k in
             let w = (consumed (h.known k)).1 in
@@ -313,8 +373,10 @@ module _ {A : Type 0} {computes_md5 : Bool} {stream : Option StreamFormat} {info
               frames = adds.frames_are ∙ ap (λ (z : ℕ). z + 1) p.frames ∙ sym (sum_by_push frame_count_of p.parts part);
               samples = adds.samples_are ∙ ap (λ (z : ℕ). z + frame_duration (decoded_view frame)) p.samples ∙ sym (sum_by_push sample_count_of p.parts part);
               first = first_after_frame frame byte k (at k) (w.0, c.remaining, w.1, w.2) adds;
+              sizes = subst (λ (fs : List FrameValue). AreSizesOf fs more.sizes) (sym (frames_of-append p.parts (part ∷ []))) (adds.sizes (frames_of p.parts) (decoded_view frame) refl refl p.sizes);
               hashed = subst (λ (bytes : List ℕ). HasHashedBytes computes_md5 bytes more.md5) (sym (ap (bytes_of_frames info.bit_depth) (frames_of-append p.parts (part ∷ [])) ∙ bytes_push info.bit_depth (frames_of p.parts) (decoded_view frame)))
                   (hashed_push computes_md5 info.bit_depth frame.block (bytes_of_frames info.bit_depth (frames_of p.parts)) walk.md5 more.md5 p.hashed adds.hashes);
+              found = found_after_frame frame byte k w.0 c.remaining w.1 w.2 (at k) adds bound;
             };
       }
 
@@ -327,9 +389,26 @@ module _ {A : Type 0} {computes_md5 : Bool} {stream : Option StreamFormat} {info
     | inr (inr f) ↦ f k
   ]
 
-  module _ {byte : ℕ} (at : RemainingIsKnown a → (front : List ℕ) → a.remaining ≡ front ++ b.remaining → byte ≡ (start + length front) % 2 ^ 64) where
+  module _ {byte end : ℕ} (at : RemainingIsKnown a → (front : List ℕ) → a.remaining ≡ front ++ b.remaining → byte ≡ (start + length front) % 2 ^ 64) where
+    found_after_fault : {more : Walk A} (fault : FrameError) (k : RemainingIsKnown a) (f : Fault) (t n : List ℕ) → IsFault f fault.error → FrameBytesFault stream f t → b.remaining ≡ t ++ n → ((front : List ℕ) → a.remaining ≡ front ++ n → end ≡ (start + length front) % 2 ^ 64) → AddsFault fault byte end walk more → count + 1 < 2 ^ 64
+        → FoundSoFar stream start a.remaining n ((h.is k).parts ++ Err f ∷ []) (count + 1) more.places
+    found_after_fault {more = more} fault k f t n named bad joined at_end adds bound =
+        let q = part_at k in
+        let place = adds.counts.0 in
+        let whole : a.remaining ≡ (q.0 ++ t) ++ n = q.1 ∙ ap (λ (z : List ℕ). q.0 ++ z) joined ∙ sym (append_assoc q.0 t n) in
+        let far : start + length (q.0 ++ t) ≡ (start + length q.0) + length t = omega (arith, length-append q.0 t) in
+        with_place (h.is k).found (Err f) t n (start + length q.0) place more.places bad joined q.2 (
+          place,
+          refl,
+          record {
+            begins = adds.counts.1 ∙ at k q.0 q.1;
+            ends = adds.counts.2 ∙ at_end (q.0 ++ t) whole ∙ ap (λ (m : ℕ). m % 2 ^ 64) far;
+            fault = subst (IsFaultWith (IsFault f)) (sym adds.counts.3) named;
+          },
+        ) adds.counts.4 bound
+
     -- what is first after a fault
-    first_after_fault : {failed : Type 0} {more : Walk A} (fault : FrameError) (k : RemainingIsKnown a) → IsFaultAt failed stream b.remaining fault.error → (IsTrue fault.is_32_bit ↔ Is32BitFault b.remaining fault.error) → AddsFault fault byte walk more
+    first_after_fault : {failed : Type 0} {more : Walk A} (fault : FrameError) (k : RemainingIsKnown a) → IsFaultAt failed stream b.remaining fault.error → (IsTrue fault.is_32_bit ↔ Is32BitFault b.remaining fault.error) → AddsFault fault byte end walk more
         → (place : Place) × (first_place more.places ≡ Some place) × IsFirst failed stream info start a.remaining place
     unfolding FirstSoFar
     first_after_fault {failed = failed} {more = more} fault k is is_32_bit adds = go (first_place walk.places) (h.is k).first adds.first
@@ -341,10 +420,10 @@ module _ {A : Type 0} {computes_md5 : Bool} {stream : Option StreamFormat} {info
             let q = keeps_first (first_place more.places) old so_far becomes in
             (q.0, q.1, first_weaker stream info start a.remaining q.0 (λ (x : ⊥). absurd x) q.2)
 
-    pub fault_added : {more : Walk A} (fault : FrameError) (c : State ℕ) → BlockIsRead stream (Err fault.error) b c → (RemainingIsKnown b → IsTrue fault.is_32_bit ↔ Is32BitFault b.remaining fault.error) → is_io fault.error ≡ false → is_out_of_memory fault.error ≡ false → AddsFault fault byte walk more
+    pub fault_added : {more : Walk A} (fault : FrameError) (c : State ℕ) → count + 1 < 2 ^ 64 → (RemainingIsKnown a → RemainingIsKnown c → final_values c ≡ final_values a → (front : List ℕ) → a.remaining ≡ front ++ c.remaining → end ≡ (start + length front) % 2 ^ 64) → BlockIsRead stream (Err fault.error) b c → (RemainingIsKnown b → IsTrue fault.is_32_bit ↔ Is32BitFault b.remaining fault.error) → is_io fault.error ≡ false → is_out_of_memory fault.error ≡ false → AddsFault fault byte end walk more
         → WalkedSoFar computes_md5 stream info start a c (count + 1) more
     unfolding FirstSoFar
-    fault_added {more = more} fault c read is_32_bit io memory adds =
+    fault_added {more = more} fault c bound at_end read is_32_bit io memory adds =
         let error = fault.error in
         let kept = kept_err error io memory read.kept in
         record {
@@ -352,7 +431,7 @@ module _ {A : Type 0} {computes_md5 : Bool} {stream : Option StreamFormat} {info
           empty_reads = kept.1 ∙ h.empty_reads;
           loans = read.loans ∙ h.loans;
           known = λ k. ((fault_consumed error c read io memory (h.known k)).2 (h.known k)).0;
-          crcs = λ k. kept.2 (h.known k) ∙ h.crcs k;
+          values = λ k. kept.2 (h.known k) ∙ h.values k;
           is = λ k.
               let p = h.is k in
               let f = fault_consumed error c read io memory (h.known k) in
@@ -367,12 +446,14 @@ module _ {A : Type 0} {computes_md5 : Bool} {stream : Option StreamFormat} {info
                 frames = adds.frames_are ∙ p.frames ∙ omega (arith, sum_by_push frame_count_of p.parts part);
                 samples = adds.samples_are ∙ p.samples ∙ omega (arith, sum_by_push sample_count_of p.parts part);
                 first = subst (FirstSoFar stream info start a.remaining (p.parts ++ part ∷ []) more.order more.sample more.samples) (sym first.1) first.2;
+                sizes = subst (λ (fs : List FrameValue). AreSizesOf fs more.sizes) (sym frames_are) (subst (AreSizesOf (frames_of p.parts)) (sym adds.sizes_are) p.sizes);
                 hashed = subst (λ (fs : List FrameValue). HasHashedBytes computes_md5 (bytes_of_frames info.bit_depth fs) more.md5) (sym frames_are) (subst (HasHashedBytes computes_md5 (bytes_of_frames info.bit_depth (frames_of p.parts))) (sym adds.md5_is) p.hashed);
+                found = found_after_fault fault k f.0 w.0 c.remaining f.1 w.1 w.2 (λ front e. at_end k (f.2 (h.known k)).0 (kept.2 (h.known k) ∙ h.values k) front e) adds bound;
               };
         }
 
     -- a frame that isn't whole is the last one
-    pub cut_found : {more : Walk A} (fault : FrameError) (c : State ℕ) → BlockIsRead stream (Err fault.error) b c → (RemainingIsKnown b → IsTrue fault.is_32_bit ↔ Is32BitFault b.remaining fault.error) → IsIo fault.error → AddsFault fault byte walk more → WalksToEnd computes_md5 stream info start a c more
+    pub cut_found : {more : Walk A} (fault : FrameError) (c : State ℕ) → BlockIsRead stream (Err fault.error) b c → (RemainingIsKnown b → IsTrue fault.is_32_bit ↔ Is32BitFault b.remaining fault.error) → IsIo fault.error → AddsFault fault byte end walk more → WalksToEnd computes_md5 stream info start a c more
     cut_found {more = more} fault c read is_32_bit io adds k =
         let p = h.is k in
         let why : IsNotWhole stream b.remaining ⊎ ReadFailedIn a c = elim (read.io io (h.known k)) [
@@ -389,11 +470,60 @@ module _ {A : Type 0} {computes_md5 : Bool} {stream : Option StreamFormat} {info
             frames = adds.frames_are ∙ p.frames;
             samples = adds.samples_are ∙ p.samples;
             first = subst (FirstIs (ReadFailedIn a c) stream info start a.remaining p.parts true) (sym first.1) first.2;
+            sizes = ap (λ (s : SizesSoFar). s.changed) adds.sizes_are ∙ changed_of (frames_of p.parts) walk.sizes p.sizes;
           },
           subst (HasHashedBytes computes_md5 (bytes_of_frames info.bit_depth (frames_of p.parts))) (sym adds.md5_is) p.hashed,
         )
 
+    -- its place is the last one
+    pub cut_places : {more : Walk A} (fault : FrameError) (c : State ℕ) → count + 1 < 2 ^ 64 → BlockIsRead stream (Err fault.error) b c → IsIo fault.error → AddsFault fault byte end walk more → WalksPlaces stream start a c more
+    cut_places {more = more} fault c bound read io adds k =
+        let p = h.is k in
+        let q = part_at k in
+        let place = adds.counts.0 in
+        let w = so_many_with p.found place more.places adds.counts.4 bound in (
+          record {
+            parts = p.parts;
+            is_cut = true;
+            front = q.0;
+            rest = b.remaining;
+            found = p.found.found;
+            last = place ∷ [];
+            joined = q.1;
+            places_are = p.found.are;
+            ends = elim (read.io io (h.known k)) [
+              | inl n ↦ inl n
+              | inr f ↦ inr (elim f [ inl n ↦ inl (λ e. n (e ∙ sym h.errors)) | inr n ↦ inr (λ e. n.0 (e ∙ sym h.empty_reads), n.1) ])
+            ];
+            last_is = (place, refl, adds.counts.1 ∙ at k q.0 q.1, subst (IsFaultWith IsIo) (sym adds.counts.3) io);
+            so_many = w.0;
+          },
+          left_out_of more.places adds.counts.4.some (count + 1) w.1 bound,
+        )
+
   -- the end
+  pub eof_places : {more : Walk A} (c : State ℕ) → count + 1 < 2 ^ 64 → BlockIsRead stream (Ok None) b c → EndsWalk walk more → WalksPlaces stream start a c more
+  eof_places {more = more} c bound read ends k =
+      let p = h.is k in
+      let q = part_at k in
+      let small = p.found.small in
+      let same = ends.count in (
+        record {
+          parts = p.parts;
+          is_cut = false;
+          front = q.0;
+          rest = b.remaining;
+          found = p.found.found;
+          last = [];
+          joined = q.1;
+          places_are = p.found.are;
+          ends = read.eof refl (h.known k);
+          last_is = refl;
+          so_many = subst (λ (z : List Place). AreSoMany None z (count_so_far more.places)) (sym (append-nil p.found.found)) (subst (AreSoMany None p.found.found) (sym same) p.found.so_many);
+        },
+        omega (arith, small, same, bound),
+      )
+
   pub eof_found : {more : Walk A} (c : State ℕ) → BlockIsRead stream (Ok None) b c → EndsWalk walk more → WalksToEnd computes_md5 stream info start a c more
   unfolding FirstSoFar
   eof_found {more = more} c read ends k =
@@ -407,6 +537,7 @@ module _ {A : Type 0} {computes_md5 : Bool} {stream : Option StreamFormat} {info
           frames = ends.frames_are ∙ p.frames;
           samples = ends.samples_are ∙ p.samples;
           first = kept (first_place walk.places) (first_place more.places) ends.first (go (first_place walk.places) p.first);
+          sizes = ap (λ (s : SizesSoFar). s.changed) ends.sizes_are ∙ changed_of (frames_of p.parts) walk.sizes p.sizes;
         },
         subst (HasHashedBytes computes_md5 (bytes_of_frames info.bit_depth (frames_of p.parts))) (sym ends.md5_is) p.hashed,
       )

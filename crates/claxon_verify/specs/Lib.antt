@@ -1,3 +1,5 @@
+pub mod Places
 pub mod RightStream
+pub mod StreamHead
 pub mod Verify
 pub mod Walk

@@ -1,5 +1,6 @@
 -- What a right stream is: a head, and frames that agree with it and with one another.
 use Rattle.std.specs.Prelude.{
+  All,
   ◌≡◌,
   ◌⊎◌,
   ℕ,
@@ -20,6 +21,7 @@ use Rattle.std.specs.Prelude.{
   IfSome,
 }
 use Rattle.std.specs.List.{sum_by}
+use Rattle.claxon.specs.Bits.{FitsIn}
 use Rattle.claxon.specs.BlockInfos.{BlockInfo}
 use Rattle.claxon.specs.DecodedFrame.{FrameValue, FrameWithHeader}
 use Rattle.claxon.specs.Frame.{StreamFormat}
@@ -73,21 +75,26 @@ number_after (first ∷ frames) = number_of first.info.is_variable (first ∷ fr
 abbrev pub HasStrategy : Option Bool → BlockInfo → Type 0
 HasStrategy strategy frame = IfSome strategy (λ is_variable. frame.is_variable ≡ is_variable)
 
--- The frame is the next one: it agrees with the streaminfo, and has this blocking strategy and
--- this coded number.
-abbrev pub IsNext : Streaminfo → Option Bool → ℕ → BlockInfo → Type 0
+-- Each sample of each channel fits in the bit depth of the streaminfo.
+abbrev pub FitsBitDepth : Streaminfo → FrameValue → Type 0
+FitsBitDepth info frame = All (All (FitsIn info.bit_depth)) frame.block.channels
+
+-- The frame is the next one: it agrees with the streaminfo, has this blocking strategy and this
+-- coded number, and its samples fit.
+abbrev pub IsNext : Streaminfo → Option Bool → ℕ → FrameValue → Type 0
 IsNext info strategy number frame =
-    AgreesWithInfo info frame × HasStrategy strategy frame × (frame.number ≡ number)
+    AgreesWithInfo info frame.info × HasStrategy strategy frame.info
+    × (frame.info.number ≡ number) × FitsBitDepth info frame
 
 -- It is the next one after these.
-abbrev pub IsNextAfter : Streaminfo → List FrameValue → BlockInfo → Type 0
+abbrev pub IsNextAfter : Streaminfo → List FrameValue → FrameValue → Type 0
 IsNextAfter info before = IsNext info (strategy_after before) (number_after before)
 
 -- Each of the frames is the next one after these and those before it.
 abbrev pub AreNextAfter : Streaminfo → List FrameValue → List FrameValue → Type 0
 AreNextAfter info before [] = Unit {0}
 AreNextAfter info before (frame ∷ frames) =
-    IsNextAfter info before frame.info × AreNextAfter info (before ++ frame ∷ []) frames
+    IsNextAfter info before frame × AreNextAfter info (before ++ frame ∷ []) frames
 
 -- Each of the frames is the next one after those before it.
 abbrev pub AreInOrder : Streaminfo → List FrameValue → Type 0

@@ -2,6 +2,7 @@
 use Rattle.std.specs.Prelude.{
   ◌≡◌,
   ◌≢◌,
+  ◌==◌,
   ◌⊎◌,
   ◌↔◌,
   ◌<◌,
@@ -18,6 +19,7 @@ use Rattle.std.specs.Prelude.{
   ◌∷◌,
   ◌++◌,
   codes,
+  if◌then◌else◌,
   length,
   not,
   Option,
@@ -40,15 +42,14 @@ use Rattle.claxon.specs.Fault.{Fault}
 use Rattle.claxon.specs.Frame.{FrameBytesFault, StreamFormat}
 use Rattle.claxon.specs.FrameReader.{HeaderOfLargerBlock}
 use Rattle.claxon.specs.Gives.{ReadFailedIn}
-use Rattle.claxon.specs.Heads.{Head, HeadCode, HeadFault, Marker, stream_marker}
 use Rattle.claxon.specs.MetadataBlock.{info_view}
 use Rattle.claxon.specs.Prefix.{BeginsWith}
-use Rattle.claxon.specs.Promises.{HasNeither, IsOutOfMemory}
-use Rattle.claxon.specs.ReadHead.{MemoryMayBeNeeded}
+use Rattle.claxon.specs.Promises.{IsOutOfMemory}
 use Rattle.claxon.specs.Source.{Source}
 use Rattle.claxon.specs.State.{State, bytes_in, RemainingIsKnown}
 use Rattle.claxon.specs.Streaminfo.{Streaminfo}
-use Rattle.claxon.specs.Streams.{stream_of, with_samples}
+use Rattle.claxon.specs.Streams.{stream_of}
+use Rattle.claxon.specs.read.Reading.{Done, Faulty, Incomplete}
 use Rattle.claxon.specs.Errors.{Error}
 use Rattle.claxon.specs.Errors.TheVariants.{OutOfMemory, Unsupported}
 use Rattle.claxon.specs.RunningReader.{running_source, running_value}
@@ -62,12 +63,15 @@ use Rattle.claxon_verify.specs.RightStream.{
   HasStrategy,
   IsNext,
   IsRightStream,
+  FitsBitDepth,
   bytes_of_frames,
   frame_duration,
   number_after,
   strategy_after,
 }
+use Rattle.claxon_verify.specs.StreamHead.{FoundHead, HeadNeedsMemory, found_head_at}
 use Rattle.claxon_command_line.specs.declared.progress.Progress.{Progress}
+use Rattle.claxon_verify.specs.declared.report.BlockSizes.{BlockSizes}
 use Rattle.claxon_verify.specs.declared.report.Damage.{Damage}
 use Rattle.claxon_verify.specs.declared.report.Damage.TheVariants.{
   BitDepth,
@@ -77,12 +81,16 @@ use Rattle.claxon_verify.specs.declared.report.Damage.TheVariants.{
   Missing,
   Repeated,
   SampleRate,
+  WideSample,
 }
+use Rattle.claxon_verify.specs.declared.report.Found.{Found}
 use Rattle.claxon_verify.specs.declared.report.Gap.{Gap}
+use Rattle.claxon_md5.specs.Md5.{md5}
 use Rattle.claxon_blocks.specs.declared.md5_verdict.Md5Verdict.{Md5Verdict}
 use Rattle.claxon_blocks.specs.declared.md5_verdict.Md5Verdict.TheVariants.{NotComputed, Wrong}
 use Rattle.claxon_verify.specs.declared.report.Place.{Place}
 use Rattle.claxon_verify.specs.declared.report.Report.{Report}
+use Rattle.claxon_verify.specs.declared.report.UnsupportedBlock.{UnsupportedBlock}
 use Rattle.claxon_verify.specs.declared.BytesRead.{BytesRead}
 
 -- ---- frames and faults
@@ -136,6 +144,25 @@ CanBeCounted parts =
     (sum_by sample_count_of parts < 2 ^ 64)
     × (sum_by frame_count_of parts + sum_by fault_count_of parts + 1 < 2 ^ 64)
 
+-- ---- block sizes
+
+-- this block size, and that of the first of these frames which has another one; the last frame
+-- doesn't count
+abbrev pub sizes_from : ℕ → List FrameValue → Option BlockSizes
+sizes_from size [] = None
+sizes_from size (frame ∷ []) = None
+sizes_from size (frame ∷ next ∷ frames) =
+    if frame_duration frame == size then sizes_from size (next ∷ frames)
+    else Some (record { first = size; other = frame_duration frame })
+
+-- the block size of the first frame and the first other one, where the block size is fixed; the
+-- last frame may have any (section 9.1)
+abbrev pub changed_size : List FrameValue → Option BlockSizes
+changed_size [] = None
+changed_size (first ∷ frames) =
+    if first.info.is_variable then None
+    else sizes_from (frame_duration first) (first ∷ frames)
+
 -- ---- the end, and the first thing that is wrong. `failed` says that a read of the source failed.
 
 -- Fewer than two bytes are left, or a frame that isn't whole.
@@ -169,24 +196,30 @@ IsNumbered number frame (Some (Repeated gap)) = IsRepeated number frame gap
 IsNumbered number frame (Some _) = ⊥
 
 -- The frame isn't the next one, and this is why: of its channels, its bit depth, its sample rate,
--- its blocking strategy and its coded number the first that isn't right.
-abbrev pub IsNotNext : Streaminfo → Option Bool → ℕ → BlockInfo → Damage → Type 0
+-- its blocking strategy, its coded number and its samples the first that isn't right.
+abbrev pub IsNotNext : Streaminfo → Option Bool → ℕ → FrameValue → Damage → Type 0
 IsNotNext info strategy number frame (FaultDamage e) = ⊥
-IsNotNext info strategy number frame (Channels n) = (n ≡ frame.channels) × (n ≢ info.channels)
+IsNotNext info strategy number frame (Channels n) =
+    (n ≡ frame.info.channels) × (n ≢ info.channels)
 IsNotNext info strategy number frame (BitDepth n) =
-    (frame.channels ≡ info.channels) × (n ≡ frame.bit_depth) × (n ≢ info.bit_depth)
+    (frame.info.channels ≡ info.channels) × (n ≡ frame.info.bit_depth) × (n ≢ info.bit_depth)
 IsNotNext info strategy number frame (SampleRate n) =
-    (frame.channels ≡ info.channels) × (frame.bit_depth ≡ info.bit_depth)
-    × (frame.sample_rate ≡ Some n) × (n ≢ info.rate)
+    (frame.info.channels ≡ info.channels) × (frame.info.bit_depth ≡ info.bit_depth)
+    × (frame.info.sample_rate ≡ Some n) × (n ≢ info.rate)
 IsNotNext info strategy number frame BlockingStrategy =
-    AgreesWithInfo info frame × (strategy ≡ Some (not frame.is_variable))
+    AgreesWithInfo info frame.info × (strategy ≡ Some (not frame.info.is_variable))
 IsNotNext info strategy number frame (Missing gap) =
-    AgreesWithInfo info frame × HasStrategy strategy frame × IsMissing number frame gap
+    AgreesWithInfo info frame.info × HasStrategy strategy frame.info
+    × IsMissing number frame.info gap
 IsNotNext info strategy number frame (Repeated gap) =
-    AgreesWithInfo info frame × HasStrategy strategy frame × IsRepeated number frame gap
+    AgreesWithInfo info frame.info × HasStrategy strategy frame.info
+    × IsRepeated number frame.info gap
+IsNotNext info strategy number frame WideSample =
+    AgreesWithInfo info frame.info × HasStrategy strategy frame.info
+    × (frame.info.number ≡ number) × (FitsBitDepth info frame → ⊥)
 
 -- It is the next one, or this is why it isn't.
-abbrev pub IsJudged : Streaminfo → Option Bool → ℕ → BlockInfo → Option Damage → Type 0
+abbrev pub IsJudged : Streaminfo → Option Bool → ℕ → FrameValue → Option Damage → Type 0
 IsJudged info strategy number frame None = IsNext info strategy number frame
 IsJudged info strategy number frame (Some damage) = IsNotNext info strategy number frame damage
 
@@ -198,7 +231,7 @@ IsDamageAt failed stream info before m (FaultDamage e) =
     IsFaultAt failed stream m e.error × (IsTrue e.is_32_bit ↔ Is32BitFault m e.error)
 IsDamageAt failed stream info before m damage =
     (frame : FrameValue) × BeginsWith (FrameWithHeader stream frame) m
-    × IsNotNext info (strategy_after before) (number_after before) frame.info damage
+    × IsNotNext info (strategy_after before) (number_after before) frame damage
 
 -- It stands in s, which begins at the byte `start` of the stream, after just frames in order.
 pub record IsFirst (failed : Type 0) (stream : Option StreamFormat) (info : Streaminfo) (start : ℕ)
@@ -224,11 +257,13 @@ FirstIs failed stream info start s parts is_cut None = (is_cut ≡ false) × Are
 FirstIs failed stream info start s parts is_cut (Some place) =
     IsFirst failed stream info start s place
 
--- what was counted: frames, samples of each channel, and the first place
+-- what was counted: frames, samples of each channel, and the first place; and the block sizes,
+-- where a fixed one changes
 pub record Counts : Type 0 where
   pub frames : ℕ
   pub samples : ℕ
   pub first : Option Place
+  pub sizes : Option BlockSizes
 
 -- s, which begins at the byte `start` of the stream, is frames and faults up to the end, and these
 -- were counted.
@@ -242,6 +277,7 @@ pub record Counted (failed : Type 0) (stream : Option StreamFormat) (info : Stre
   pub frames : counts.frames ≡ sum_by frame_count_of parts
   pub samples : counts.samples ≡ sum_by sample_count_of parts
   pub first : FirstIs failed stream info start s parts is_cut counts.first
+  pub sizes : counts.sizes ≡ changed_size (frames_of parts)
 
 -- ---- a whole stream
 
@@ -250,58 +286,75 @@ abbrev pub Md5Is : Bool → Streaminfo → List FrameValue → Md5Verdict → Ty
 Md5Is false info frames verdict = verdict ≡ NotComputed
 Md5Is true info frames verdict = IsMd5Verdict info (bytes_of_frames info.bit_depth frames) verdict
 
--- a report, as its callers see it: the streaminfo, what was counted, what became of the MD5 sum,
--- and whether the stream is right
+-- the MD5 sum of the samples of these frames, if it is wanted
+abbrev pub sum_of : Bool → Streaminfo → List FrameValue → Option (List ℕ)
+sum_of false info frames = None
+sum_of true info frames = Some (md5 (bytes_of_frames info.bit_depth frames))
+
+-- a report, as its callers see it: the streaminfo, what isn't supported of the metadata, what was
+-- counted, what became of the MD5 sum, that sum, and whether the stream is right
 pub record ReportValue : Type 0 where
   pub info : Streaminfo
+  pub unsupported : Option UnsupportedBlock
   pub counts : Counts
   pub md5 : Md5Verdict
+  pub sum : Option (List ℕ)
   pub is_right : Bool
 
 abbrev pub report_view : {A : Type 0} → Report A → ReportValue
 report_view report = record {
   info = info_view report.info;
+  unsupported = report.unsupported;
   counts = record {
     frames = report.found.frames;
     samples = report.found.samples;
     first = report.found.places.first;
+    sizes = report.found.notes.changed_block_size;
   };
   md5 = report.md5;
+  sum = report.computed_md5;
   is_right = report.is_right;
 }
 
--- A stream is right where there is no place, there are as many samples as the streaminfo says,
--- where it doesn't say 0, and the MD5 sum isn't another one.
+-- There is no place, there are as many samples as expected, where 0 isn't, and the MD5 sum isn't
+-- another one.
+abbrev pub NothingIsWrong : {A : Type 0} → Found A → ℕ → Md5Verdict → Type 0
+NothingIsWrong found expected verdict =
+    (found.places.first ≡ None) × ((expected ≡ 0) ⊎ (expected ≡ found.samples))
+    × (verdict ≢ Wrong)
+
+-- A stream is right where all of its metadata is supported, there is no place, there are as many
+-- samples as the streaminfo says, where it doesn't say 0, and the MD5 sum isn't another one.
 abbrev pub IsRight : ReportValue → Type 0
 IsRight report =
-    IsTrue report.is_right ↔ ((report.counts.first ≡ None)
+    IsTrue report.is_right ↔ ((report.unsupported ≡ None) × (report.counts.first ≡ None)
     × ((report.info.samples ≡ 0) ⊎ (report.info.samples ≡ report.counts.samples))
     × (report.md5 ≢ Wrong))
 
 -- s is a head, frames and faults up to the end, and the report is about them.
 pub record IsVerified (failed : Type 0) (computes_md5 : Bool) (s : List ℕ) (report : ReportValue)
     : Type 0 where
-  pub head : Head
+  pub head : FoundHead
   pub front : List ℕ
   pub bytes : List ℕ
-  pub code : HeadCode (with_samples true) head front
+  pub head_is : found_head_at s ≡ Done head bytes
   pub joined : s ≡ front ++ bytes
   pub info : report.info ≡ head.info
+  pub unsupported : report.unsupported ≡ head.unsupported
   pub counted : Counted failed (Some (stream_of head.info)) head.info (length front) bytes
       report.counts
   pub md5_is : Md5Is computes_md5 head.info (frames_of counted.parts) report.md5
+  pub sum_is : report.sum ≡ sum_of computes_md5 head.info (frames_of counted.parts)
   pub right : IsRight report
 
 -- s begins with a head, frames and faults, and then such bytes.
 pub record HasFramesAndFaults (s : List ℕ)
     (P : Option StreamFormat → List FrameOrFault → List ℕ → Type 0) : Type 0 where
-  pub head : Head
-  pub front : List ℕ
+  pub head : FoundHead
   pub bytes : List ℕ
   pub parts : List FrameOrFault
   pub left : List ℕ
-  pub code : HeadCode (with_samples true) head front
-  pub joined : s ≡ front ++ bytes
+  pub head_is : found_head_at s ≡ Done head bytes
   pub parts_are : FramesAndFaults (Some (stream_of head.info)) bytes parts left
   pub what : P (Some (stream_of head.info)) parts left
 
@@ -356,6 +409,7 @@ SameDamage (SampleRate a) (SampleRate b) = a ≡ b
 SameDamage BlockingStrategy BlockingStrategy = Unit {0}
 SameDamage (Missing a) (Missing b) = a ≡ b
 SameDamage (Repeated a) (Repeated b) = a ≡ b
+SameDamage WideSample WideSample = Unit {0}
 SameDamage _ _ = ⊥
 
 -- Both begin at the same place, with the same damage, or there is none.
@@ -369,10 +423,13 @@ SameFirst _ _ = ⊥
 -- Both say the same.
 pub record SameReport (a b : ReportValue) : Type 0 where
   pub info : a.info ≡ b.info
+  pub unsupported : a.unsupported ≡ b.unsupported
   pub frames : a.counts.frames ≡ b.counts.frames
   pub samples : a.counts.samples ≡ b.counts.samples
   pub first : SameFirst a.counts.first b.counts.first
+  pub sizes : a.counts.sizes ≡ b.counts.sizes
   pub md5_is : a.md5 ≡ b.md5
+  pub sum_is : a.sum ≡ b.sum
   pub is_right : a.is_right ≡ b.is_right
 
 -- `old` and `new` are the input before and after the call.
@@ -381,30 +438,29 @@ module _ {A : Type 0} (old : State ℕ) (result : Result (Report A) Error) (new 
   abbrev pub IsExcused : Type 0
   IsExcused = IsOutOfMemory result ⊎ ReadFailedIn old new
 
-  -- An Err is `OutOfMemory`; an `IoError` where the bytes begin with neither a head nor a fault of
-  -- one, or the source failed; or it says that there are more frames and faults than can be
-  -- counted, or names the fault of a head, and so it is.
+  -- An Err is `OutOfMemory`; an `IoError` where the bytes end inside a head, or the source failed;
+  -- or it says that there are more frames and faults than can be counted, or names the fault of a
+  -- head, and so it is.
   abbrev pub VerifyFaultIsSound : Type 0
   VerifyFaultIsSound =
       IfErr result (λ e. (e ≡ OutOfMemory) ⊎ ((IsIo e × (RemainingIsKnown old
-      → HasNeither (HeadCode (with_samples true)) (HeadFault (with_samples true)) old.remaining
-      ⊎ ReadFailedIn old new))
+      → (found_head_at old.remaining ≡ Incomplete) ⊎ ReadFailedIn old new))
       ⊎ (RemainingIsKnown old
       → (IsTooMany e × HasFramesAndFaults old.remaining (λ stream parts left. AreTooMany parts))
-      ⊎ ((f : Fault) × IsFault f e × BeginsWith (HeadFault (with_samples true) f) old.remaining))))
+      ⊎ ((f : Fault) × (rest : List ℕ) × IsFault f e
+      × (found_head_at old.remaining ≡ Faulty f rest)))))
 
   -- A fault of a head that they begin with is named, or memory or the source failed.
   abbrev pub VerifyHeadFaultIsComplete : Type 0
   VerifyHeadFaultIsComplete =
-      (f : Fault) → RemainingIsKnown old
-      → BeginsWith (HeadFault (with_samples true) f) old.remaining
-      → IsErrAnd result (IsFault f) ⊎ IsExcused
+      (f : Fault) (rest : List ℕ) → RemainingIsKnown old
+      → found_head_at old.remaining ≡ Faulty f rest → IsErrAnd result (IsFault f) ⊎ IsExcused
 
   -- `OutOfMemory` is returned only after the header of a metadata block, or of a frame.
   abbrev pub VerifyOutOfMemoryAfterHeader : Type 0
   VerifyOutOfMemoryAfterHeader =
       IsOutOfMemory result → RemainingIsKnown old
-      → MemoryMayBeNeeded (Marker stream_marker) old.remaining
+      → HeadNeedsMemory old.remaining
       ⊎ HasFramesAndFaults old.remaining (λ stream parts left.
       BeginsWith (HeaderOfLargerBlock stream 0) left)
 

@@ -1,13 +1,15 @@
 //! Whether a whole stream is right: its frames, their order, and the MD5 sum of their samples.
 #![tactic(auto)]
 
-ghost use Rattle.std.specs.Prelude.{◌≡◌, ◌⊎◌, ◌↔◌, ◌≢◌, ◌<◌, ◌≤◌, IfErr, IfOk, IsTrue, None, Some};
+ghost use Rattle.std.specs.Prelude.{◌≡◌, ◌↔◌, ◌<◌, ◌≤◌, IfErr, IfOk, IsTrue, None, Some};
 ghost use Rattle.claxon.specs.Error.{is_io};
 ghost use Rattle.claxon.specs.FrameReader.{stream_with};
 ghost use Rattle.claxon.specs.MetadataBlock.{info_view, or_zero};
 ghost use Rattle.claxon.specs.State.{bytes_in};
 ghost use Rattle.claxon_command_line.specs.Progress.{StaysQuiet};
+ghost use Rattle.claxon_verify.specs.Places.{PlacesAreCounted, WalksPlaces};
 ghost use Rattle.claxon_verify.specs.Verify.{
+  NothingIsWrong,
   RightIsComplete,
   RightIsSound,
   StopsCounting,
@@ -22,25 +24,34 @@ ghost use Rattle.claxon_verify.specs.Verify.{
   position_of,
   update_position,
 };
-ghost use Rattle.claxon_blocks.specs.Md5Verdict.{Md5IsJudged};
-ghost use Rattle.claxon_verify.specs.Walk.{WalksToEnd, first_place};
+ghost use Rattle.claxon_blocks.specs.Md5Verdict.{Md5IsJudged, Md5IsShown};
+ghost use Rattle.claxon_verify.specs.Walk.{
+  CanBeLeftOut,
+  WalksToEnd,
+  count_so_far,
+  first_place,
+  place_count,
+};
 
-use crate::report::{Found, Report};
+use crate::report::{Found, Notes, Report, UnsupportedBlock};
 use claxon::input::ReadBytes;
 use claxon::metadata::StreamInfo;
 use claxon::running::{Running, RunningReader};
-use claxon::{Error, FlacReaderOptions, Result, read_head};
+use claxon::{Error, Result};
 use claxon_blocks::frames::read_frame;
-use claxon_blocks::md5_verdict::{Md5Verdict, judge_md5};
+use claxon_blocks::md5_verdict::{Md5Verdict, computed_md5, judge_md5};
 use claxon_command_line::progress::Progress;
 use claxon_md5::Md5;
+use head::read_head;
 use std::alloc::Allocator;
 use std::io::Write;
 use walk::{ByteRange, Walk, at_end, too_many, trailing, with_fault, with_frame};
 
+mod head;
 mod order;
 mod places;
 pub mod report;
+mod sizes;
 pub mod trailing;
 mod walk;
 
@@ -82,8 +93,8 @@ impl Running for BytesRead {
 ///
 /// # Errors
 ///
-/// The error of `read_head`. `OutOfMemory` if memory for a block is refused. `Unsupported` if there are 2^64 samples or more,
-/// or 2^64 - 1 frames and faults or more.
+/// That of a head, of which metadata blocks that aren't supported are passed over. `OutOfMemory` if memory for a block is
+/// refused. `Unsupported` if there are 2^64 samples or more, or 2^64 - 1 frames and faults or more.
 pub fn verify<R: ReadBytes, A: Allocator + Copy, E: Write>(
     alloc: A,
     input: &mut R,
@@ -97,6 +108,8 @@ pub fn verify<R: ReadBytes, A: Allocator + Copy, E: Write>(
     ensures right_is_sound { RightIsSound computes_md5 (bytes_in R.source input.old) result
         (bytes_in R.source input.new) }
     ensures right_is_complete { RightIsComplete computes_md5 (bytes_in R.source input.old) result
+        (bytes_in R.source input.new) }
+    ensures places_are_counted { PlacesAreCounted (bytes_in R.source input.old) result
         (bytes_in R.source input.new) }
     ensures fault_is_sound { VerifyFaultIsSound (bytes_in R.source input.old) result
         (bytes_in R.source input.new) }
@@ -118,6 +131,8 @@ fn verify_exact<R: ReadBytes, A: Allocator + Copy, E: Write>(
 ) -> Result<Report<A>>
     ensures promises { VerifyPromises computes_md5 (bytes_in R.source input.old) result
         (bytes_in R.source input.new) }
+    ensures places_are_counted { PlacesAreCounted (bytes_in R.source input.old) result
+        (bytes_in R.source input.new) }
     ensures is_quiet { VerifyIsQuiet result progress.old progress.new }
 {
     let mut input = RunningReader::new(input);
@@ -134,30 +149,36 @@ fn verify_counted<R: ReadBytes, A: Allocator + Copy, E: Write>(
     requires { position_of input.old ≡ 0 }
     ensures promises { VerifyPromises computes_md5 (counted_bytes R.source input.old) result
         (counted_bytes R.source input.new) }
+    ensures places_are_counted { PlacesAreCounted (counted_bytes R.source input.old) result
+        (counted_bytes R.source input.new) }
     ensures is_quiet { VerifyIsQuiet result progress.old progress.new }
     ensures loans { (counted_bytes R.source input.new).source.loans
         ≡ (counted_bytes R.source input.old).source.loans }
 {
-    let options = FlacReaderOptions {
-        metadata_only: false,
-        read_vorbis_comment: true,
-    };
-    let (info, _comment) = read_head(alloc, input, options)?;
+    let (info, unsupported) = read_head(alloc, input)?;
     progress.start(info.samples);
     let walk = walk_frames(alloc, input, info, computes_md5, progress)?;
-    Ok(report_of(info, walk))
+    Ok(report_of(info, unsupported, walk))
 }
 
-// What was found in a stream with this streaminfo.
-fn report_of<A: Allocator>(info: StreamInfo, walk: Walk<A>) -> Report<A>
+// What was found in a stream with this streaminfo, of whose metadata this isn't supported.
+fn report_of<A: Allocator>(
+    info: StreamInfo,
+    unsupported: Option<UnsupportedBlock>,
+    walk: Walk<A>,
+) -> Report<A>
     ensures info { result.info ≡ info }
+    ensures unsupported { result.unsupported ≡ unsupported }
     ensures frames { result.found.frames ≡ walk.frames }
     ensures samples { result.found.samples ≡ walk.samples }
     ensures first { result.found.places.first ≡ first_place walk.places }
+    ensures count { CanBeLeftOut walk.places.ended
+        → place_count result.found.places ≡ count_so_far walk.places }
+    ensures sizes { result.found.notes.changed_block_size ≡ walk.sizes.changed }
     ensures md5_is_judged { Md5IsJudged (info_view info) walk.md5 result.md5 }
-    ensures is_right { IsTrue result.is_right ↔ ((result.found.places.first ≡ None)
-        × (((or_zero info.samples ≡ 0) ⊎ (or_zero info.samples ≡ result.found.samples))
-        × (result.md5 ≢ Md5Verdict.Wrong))) }
+    ensures md5_is_shown { Md5IsShown walk.md5 result.computed_md5 }
+    ensures is_right { IsTrue result.is_right ↔ ((unsupported ≡ None)
+        × NothingIsWrong result.found (or_zero info.samples) result.md5) }
 {
     let trailing = trailing(&walk, &info);
     let Walk {
@@ -165,6 +186,7 @@ fn report_of<A: Allocator>(info: StreamInfo, walk: Walk<A>) -> Report<A>
         samples,
         places,
         notes,
+        sizes,
         md5,
         ..
     } = walk;
@@ -172,24 +194,33 @@ fn report_of<A: Allocator>(info: StreamInfo, walk: Walk<A>) -> Report<A>
         frames,
         samples,
         places: places.finish(),
-        notes,
+        notes: Notes {
+            changed_block_size: sizes.changed,
+            ..notes
+        },
     };
+    let computed_md5 = computed_md5(md5);
     let md5 = judge_md5(&info, md5);
-    let is_right = has_nothing_wrong(&found, info.samples, md5);
+    let is_right = unsupported.is_none() && has_nothing_wrong(&found, info.samples, md5);
     Report {
         info,
+        unsupported,
         found,
         md5,
+        computed_md5,
         trailing,
         is_right,
     }
 }
 
-// Whether there is no place, the expected number of samples, if there is one, and no other MD5 sum.
-fn has_nothing_wrong<A: Allocator>(found: &Found<A>, expected: Option<u64>, md5: Md5Verdict) -> bool
-    ensures { IsTrue result ↔ ((found.now.places.first ≡ None)
-        × (((or_zero expected ≡ 0) ⊎ (or_zero expected ≡ found.now.samples))
-        × (md5 ≢ Md5Verdict.Wrong))) }
+/// Whether there is no place, the expected number of samples, if there is one, and no other MD5 sum.
+pub fn has_nothing_wrong<A: Allocator>(
+    found: &Found<A>,
+    expected: Option<u64>,
+    md5: Md5Verdict,
+) -> bool
+    ensures nothing_is_wrong { IsTrue result
+        ↔ NothingIsWrong found.now (or_zero expected) md5 }
 {
     let expected = expected.unwrap_or(0);
     found.places.first.is_none()
@@ -209,6 +240,8 @@ fn walk_frames<R: ReadBytes, A: Allocator + Copy, E: Write>(
     requires max_bit_depth { info.bits_per_sample ≤ 32 }
     ensures ok { IfOk result (WalksToEnd computes_md5 (Some (stream_with info)) (info_view info)
         (position_of input.old)
+        (counted_bytes R.source input.old) (counted_bytes R.source input.new)) }
+    ensures places { IfOk result (WalksPlaces (Some (stream_with info)) (position_of input.old)
         (counted_bytes R.source input.old) (counted_bytes R.source input.new)) }
     ensures err { IfErr result (StopsCounting (Some (stream_with info))
         (counted_bytes R.source input.old)) }

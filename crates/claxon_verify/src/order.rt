@@ -1,11 +1,15 @@
 //! Whether a frame is the next one of a stream.
+ghost use Rattle.std.specs.Prelude.{◌≤◌};
+ghost use Rattle.claxon.specs.DecodedFrame.{decoded_view};
 ghost use Rattle.claxon.specs.MetadataBlock.{info_view};
 ghost use Rattle.claxon_verify.specs.Verify.{IsJudged, IsNumbered};
 ghost use Rattle.claxon_verify.specs.Walk.{GoesOn};
 
 use crate::report::{Damage, Gap};
-use claxon::frame::BlockInfo;
+use claxon::frame::{BlockInfo, DecodedFrame};
 use claxon::metadata::StreamInfo;
+use claxon_blocks::fit::samples_fit;
+use std::alloc::Allocator;
 
 /// What the next frame of a stream has to be.
 #[derive(Clone, Copy, Debug)]
@@ -18,24 +22,34 @@ pub(crate) struct Order {
 
 impl Order {
     /// What is wrong with a frame; None if it is the next one.
-    pub fn damage(self, info: &StreamInfo, frame: &BlockInfo) -> Option<Damage>
-        ensures is_judged { IsJudged (info_view info.now) self.is_variable self.number frame.now
-            result }
+    pub fn damage<A: Allocator>(self, info: &StreamInfo, frame: &DecodedFrame<A>) -> Option<Damage>
+        requires min_bit_depth { 1 ≤ info.now.bits_per_sample }
+        requires max_bit_depth { info.now.bits_per_sample ≤ 32 }
+        ensures is_judged { IsJudged (info_view info.now) self.is_variable self.number
+            (decoded_view frame.now) result }
     {
-        if frame.channels != info.channels {
-            return Some(Damage::Channels(frame.channels));
+        let header = frame.info;
+        if header.channels != info.channels {
+            return Some(Damage::Channels(header.channels));
         }
-        if frame.bit_depth != info.bits_per_sample {
-            return Some(Damage::BitDepth(frame.bit_depth));
+        if header.bit_depth != info.bits_per_sample {
+            return Some(Damage::BitDepth(header.bit_depth));
         }
-        let rate = frame.sample_rate.unwrap_or(info.sample_rate);
+        let rate = header.sample_rate.unwrap_or(info.sample_rate);
         if rate != info.sample_rate {
             return Some(Damage::SampleRate(rate));
         }
-        if self.is_variable == Some(!frame.is_variable) {
+        if self.is_variable == Some(!header.is_variable) {
             return Some(Damage::BlockingStrategy);
         }
-        self.gap(frame)
+        if let Some(gap) = self.gap(&header) {
+            return Some(gap);
+        }
+        if samples_fit(&frame.block, info.bits_per_sample) {
+            None
+        } else {
+            Some(Damage::WideSample)
+        }
     }
 
     // What is missing before a frame, or there twice.

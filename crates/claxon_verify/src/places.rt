@@ -1,6 +1,19 @@
 //! The places of a stream that aren't right, while they are found.
-ghost use Rattle.std.specs.Prelude.{◌≡◌, ◌≢◌, IsTrue, None, Some};
-ghost use Rattle.claxon_verify.specs.Walk.{AddsPlace, KeepsFirstPlace, first_place, or_else};
+ghost use Rattle.std.specs.Prelude.{◌≡◌, ◌≢◌, ◌↔◌, ◌+◌, IsTrue, None, Some};
+ghost use Rattle.claxon_verify.specs.Walk.{
+  AddsPlace,
+  CanBeLeftOut,
+  CountsPlace,
+  DamageGoesOn,
+  KeepsCount,
+  KeepsFirstPlace,
+  LastGoesOn,
+  PlaceGoesOn,
+  count_so_far,
+  first_place,
+  or_else,
+  place_count,
+};
 
 use crate::report::{Damage, Place, Places};
 use crate::trailing::is_failed_read;
@@ -16,7 +29,9 @@ pub(crate) struct PlacesSoFar<A: Allocator> {
 impl<A: Allocator> PlacesSoFar<A> {
     /// None so far.
     pub fn new(alloc: A) -> PlacesSoFar<A>
-        ensures { first_place result ≡ None }
+        ensures first { first_place result ≡ None }
+        ensures count { count_so_far result ≡ 0 }
+        ensures none_goes_on { (next : Place) → LastGoesOn result next → ⊥ }
     {
         PlacesSoFar {
             ended: Places {
@@ -31,6 +46,7 @@ impl<A: Allocator> PlacesSoFar<A> {
     /// One place more, or the last one made longer, if it goes on.
     pub fn with(self, place: Place) -> PlacesSoFar<A>
         ensures adds_place { AddsPlace place self result }
+        ensures counts_place { CountsPlace place self result }
     {
         let PlacesSoFar { ended, last } = self;
         match last {
@@ -79,6 +95,7 @@ impl<A: Allocator> PlacesSoFar<A> {
     /// The bytes from this one on, up to another, belong to the fault before them, if there is one.
     pub fn longer(self, start: u64, end: u64) -> PlacesSoFar<A>
         ensures keeps_first_place { KeepsFirstPlace (first_place self) (first_place result) }
+        ensures keeps_count { count_so_far result ≡ count_so_far self }
     {
         let PlacesSoFar { ended, last } = self;
         let last = match last {
@@ -94,6 +111,7 @@ impl<A: Allocator> PlacesSoFar<A> {
     /// The samples up to this one are in the last place.
     pub fn up_to(self, sample: u64) -> PlacesSoFar<A>
         ensures keeps_first_place { KeepsFirstPlace (first_place self) (first_place result) }
+        ensures keeps_count { KeepsCount self result }
     {
         let PlacesSoFar { ended, last } = self;
         let last = match last {
@@ -108,7 +126,8 @@ impl<A: Allocator> PlacesSoFar<A> {
 
     /// All of them.
     pub fn finish(self) -> Places<A>
-        ensures { result.first ≡ first_place self }
+        ensures first { result.first ≡ first_place self }
+        ensures count { CanBeLeftOut self.ended → place_count result ≡ count_so_far self }
     {
         let PlacesSoFar { ended, last } = self;
         match last {
@@ -124,7 +143,8 @@ fn is_fault_before(place: &Place, byte: u64) -> bool {
 
 // One place more, which is left out if memory is refused.
 fn with_place<A: Allocator>(places: Places<A>, place: Place) -> Places<A>
-    ensures { result.first ≡ or_else places.first (Some place) }
+    ensures first { result.first ≡ or_else places.first (Some place) }
+    ensures count { CanBeLeftOut places → place_count result ≡ place_count places + 1 }
 {
     let Places {
         first,
@@ -150,16 +170,22 @@ fn with_place<A: Allocator>(places: Places<A>, place: Place) -> Places<A>
 
 // Whether a place goes on in the next one: faults one after another, or frames with the same damage. A failed read is a place
 // of its own.
-fn goes_on(last: &Place, next: &Place) -> bool {
-    if last.end_byte != next.start_byte {
-        return false;
-    }
-    match (&last.damage, &next.damage) {
+fn goes_on(last: &Place, next: &Place) -> bool
+    ensures { IsTrue result ↔ PlaceGoesOn last.now next.now }
+{
+    last.end_byte == next.start_byte && damage_goes_on(&last.damage, &next.damage)
+}
+
+fn damage_goes_on(last: &Damage, next: &Damage) -> bool
+    ensures { IsTrue result ↔ DamageGoesOn last.now next.now }
+{
+    match (last, next) {
         (Damage::Fault(_), Damage::Fault(next)) => !is_failed_read(&next.error),
         (Damage::Channels(a), Damage::Channels(b)) => a == b,
         (Damage::BitDepth(a), Damage::BitDepth(b)) => a == b,
         (Damage::SampleRate(a), Damage::SampleRate(b)) => a == b,
-        (Damage::BlockingStrategy, Damage::BlockingStrategy) => true,
+        (Damage::BlockingStrategy, Damage::BlockingStrategy)
+        | (Damage::WideSample, Damage::WideSample) => true,
         _ => false,
     }
 }

@@ -9,14 +9,37 @@ use std::alloc::{Allocator, Global};
 pub struct Report<A: Allocator = Global> {
     /// What the stream says of itself.
     pub info: StreamInfo,
+    /// The first thing that isn't supported of the metadata blocks, which were passed over then.
+    pub unsupported: Option<UnsupportedBlock>,
     /// What its frames are.
     pub found: Found<A>,
     /// What became of the MD5 sum of the samples.
     pub md5: Md5Verdict,
+    /// That sum, if it was computed: of the samples of all frames that were decoded.
+    pub computed_md5: Option<[u8; 16]>,
     /// What stands after the last frame, where two bytes or more do. They are then the last of the places.
     pub trailing: Option<Trailing>,
-    /// Nothing is wrong: see `IsRightStream`.
+    /// Nothing is wrong, and nothing of the metadata isn't supported: see `IsRightStream`.
     pub is_right: bool,
+}
+
+/// Why a metadata block is passed over. Other decoders accept it, and the frames may be right.
+#[derive(Clone, Copy, Debug)]
+pub enum UnsupportedBlock {
+    /// It is a second Vorbis comment block.
+    SecondComments,
+    /// A tag or the vendor string isn't UTF-8.
+    NotUtf8,
+    /// A tag has no `=`.
+    NoSeparator,
+    /// The name of a tag has a byte other than 0x20 to 0x7d.
+    FieldName,
+    /// Bytes are left after the last tag.
+    BytesLeft,
+    /// It is a Vorbis comment block of more than 10 MiB.
+    LargeComments,
+    /// It is an application block of more than 10 MiB.
+    LargeApplication,
 }
 
 /// What the frames of a stream are.
@@ -76,6 +99,8 @@ pub enum Damage {
     Missing(Gap),
     /// Frames or samples are repeated, from a frame on.
     Repeated(Gap),
+    /// Frames have a sample that doesn't fit in the bit depth.
+    WideSample,
 }
 
 /// A number of frames, or of samples of each channel where the block size is variable.
@@ -96,6 +121,17 @@ pub struct Notes {
     pub has_other_frame_size: bool,
     /// One byte stands after the last frame.
     pub has_byte_left: bool,
+    /// The block size is fixed, but changes: a frame before the last one has another than the first.
+    pub changed_block_size: Option<BlockSizes>,
+}
+
+/// Two block sizes of a stream.
+#[derive(Clone, Copy, Debug)]
+pub struct BlockSizes {
+    /// That of the first frame.
+    pub first: u32,
+    /// The first other one.
+    pub other: u32,
 }
 
 /// What stands after the last frame.

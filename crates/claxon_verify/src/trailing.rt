@@ -1,4 +1,7 @@
 //! What stands after the last frame.
+ghost use Rattle.std.specs.Prelude.{◌↔◌, IsTrue};
+ghost use Rattle.claxon_verify.specs.Walk.{IsFailedRead};
+
 use crate::report::{Damage, Trailing};
 use claxon::Error;
 use claxon::fault_texts::SYNC_CODE_MISSING;
@@ -63,7 +66,9 @@ impl BytesAfter {
 }
 
 /// Whether the error is that of a failed read, and not of the bytes.
-pub(crate) fn is_failed_read(error: &Error) -> bool {
+pub(crate) fn is_failed_read(error: &Error) -> bool
+    ensures { IsTrue result ↔ IsFailedRead error.now }
+{
     match error {
         Error::IoError(cause) => cause.kind() != ErrorKind::UnexpectedEof,
         _ => false,

@@ -7,6 +7,7 @@ ghost use Rattle.claxon_verify.specs.Walk.{
   AddsFault,
   AddsFrame,
   BeginsWalk,
+  CountsDamage,
   EndsWalk,
   ExceedsCount,
   FirstBecomes,
@@ -18,6 +19,7 @@ ghost use Rattle.claxon_blocks.specs.HashBlock.{HashesToo};
 use crate::order::Order;
 use crate::places::PlacesSoFar;
 use crate::report::{Damage, Notes, Place, Trailing};
+use crate::sizes::SizesSoFar;
 use crate::trailing::{BytesAfter, is_no_sync_code, is_of_bytes};
 use claxon::frame::{BlockInfo, DecodedFrame};
 use claxon::metadata::StreamInfo;
@@ -34,6 +36,7 @@ pub(crate) struct Walk<A: Allocator> {
     pub samples: u64,
     pub places: PlacesSoFar<A>,
     pub notes: Notes,
+    pub sizes: SizesSoFar,
     /// The last block had fewer samples than the streaminfo says.
     pub is_short: bool,
     /// What the next frame has to be.
@@ -68,7 +71,9 @@ impl<A: Allocator> Walk<A> {
                 has_other_block_size: false,
                 has_other_frame_size: false,
                 has_byte_left: false,
+                changed_block_size: None,
             },
+            sizes: SizesSoFar::new(),
             is_short: false,
             order: Order {
                 is_variable: None,
@@ -107,6 +112,7 @@ pub(crate) fn with_frame<A: Allocator, B: Allocator>(
         samples: _,
         places,
         notes,
+        sizes,
         is_short,
         order,
         sample,
@@ -114,13 +120,14 @@ pub(crate) fn with_frame<A: Allocator, B: Allocator>(
         end: _,
         after: _,
     } = walk;
-    let damage = order.damage(&info, &frame.info);
+    let damage = order.damage(&info, frame);
     let start = sample_after(sample, &damage, &info, &frame.info);
     let order = order_after(order, &damage, &frame.info, duration);
     Ok(Walk {
         frames,
         samples,
         notes: with_sizes(notes, &info, is_short, duration, span),
+        sizes: sizes.with(&frame.info, duration),
         is_short: duration < u32::from(info.min_block_size),
         order,
         places: with_damage(places, damage, span, sample, start, duration),
@@ -131,12 +138,14 @@ pub(crate) fn with_frame<A: Allocator, B: Allocator>(
     })
 }
 
-// What the next frame has to be. A frame with other damage than a gap is one of another stream.
+// What the next frame has to be. A frame with other damage than a gap or a wide sample is one of another stream.
 fn order_after(order: Order, damage: &Option<Damage>, frame: &BlockInfo, duration: u32) -> Order
     ensures { damage.now ≡ None → GoesOn duration frame.now order result }
 {
     match damage {
-        None | Some(Damage::Missing(_) | Damage::Repeated(_)) => order.after(frame, duration),
+        None | Some(Damage::Missing(_) | Damage::Repeated(_) | Damage::WideSample) => {
+            order.after(frame, duration)
+        }
         _ => order.passed(frame, duration),
     }
 }
@@ -171,6 +180,7 @@ fn with_damage<A: Allocator>(
 ) -> PlacesSoFar<A>
     ensures first_becomes { FirstBecomes damage span.start sample
         (first_place places) (first_place result) }
+    ensures counts_damage { CountsDamage damage span.start places result }
 {
     let Some(damage) = damage else {
         return places;
@@ -212,7 +222,7 @@ fn with_sizes(
             || is_short
             || u32::from(info.max_block_size) < duration,
         has_other_frame_size: notes.has_other_frame_size || is_small || is_large,
-        has_byte_left: notes.has_byte_left,
+        ..notes
     }
 }
 
@@ -239,8 +249,9 @@ pub(crate) fn with_fault<A: Allocator>(
     span: ByteRange,
 ) -> Result<Walk<A>>
     ensures fits { span.start < 2 ^ 64 }
-    ensures ok { IfOk result
-        (λ more. (is_out_of_memory fault.error ≡ false) × AddsFault fault span.start walk more) }
+    ensures end_fits { span.end < 2 ^ 64 }
+    ensures ok { IfOk result (λ more. (is_out_of_memory fault.error ≡ false)
+        × AddsFault fault span.start span.end walk more) }
     ensures err { IfErr result
         (λ e. (fault.error ≡ Error.OutOfMemory) × (e ≡ Error.OutOfMemory)) }
 {

@@ -2,10 +2,12 @@
 use crate::reports::report_of;
 use claxon::frame::FrameReader;
 use claxon::input::BufferedReader;
+use claxon_commands::verify::command;
 use claxon_tests::answers::{
     FIVES, FRAME, Fault, Run, Step, answers_each, end_of, fault_of, frames_in_order, joined,
     run_of, two_frames,
 };
+use claxon_tests::command_lines::owned;
 use claxon_verify::report::Damage;
 use claxon_write::run;
 use std::alloc::Global;
@@ -208,6 +210,92 @@ fn verified_with_a_failed_read(rt: HostRuntime) {
             assert!(rt; found == want, "{reads}");
         }
     }
+}
+
+// Gives these bytes, and then fails.
+#[derive(Clone, Copy)]
+struct Fails<'a> {
+    bytes: &'a [u8],
+    kind: ErrorKind,
+}
+
+impl Read for Fails<'_> {
+    fn read(&mut self, buf: &mut [u8]) -> io::Result<usize> {
+        if self.bytes.is_empty() {
+            return Err(io::Error::from(self.kind));
+        }
+        let count = self.bytes.len().min(buf.len());
+        let (front, rest) = self.bytes.split_at(count);
+        buf[..count].copy_from_slice(front);
+        self.bytes = rest;
+        Ok(count)
+    }
+}
+
+// Whether `claxon verify` with these arguments ends with status 1 and writes just this, where a read of standard input fails after
+// the bytes.
+fn says(
+    rt: &HostRuntime,
+    words: &[&str],
+    input: Fails<'_>,
+    output: &str,
+    errors: &str,
+) -> Result<bool, Fail> {
+    let words = owned(rt.alloc(), words)?;
+    let (mut out, mut err): (Vec<u8>, Vec<u8>) = (Vec::new(rt.alloc()), Vec::new(rt.alloc()));
+    let status = command(rt, &words, input, &mut out, false, &mut err);
+    Ok(status == 1 && out.as_slice() == output.as_bytes() && err.as_slice() == errors.as_bytes())
+}
+
+// A file isn't read where reading fails in its head, in a frame, between two, or after the last one.
+#[test]
+fn files_that_are_not_read(rt: HostRuntime) -> Result<(), Fail> {
+    let (bytes, kind) = (frames_in_order(), ErrorKind::TimedOut);
+    let failure = io::Error::from(kind);
+    let line = format!(in rt.alloc(); "standard input: {failure}\n")?;
+    let object = format!(in rt.alloc();
+        "{{\"name\":\"-\",\"verdict\":\"not read\",\"reason\":\"{failure}\"}}\n"
+    )?;
+    for len in [0, 41, 42, 43, 53, 60, 64] {
+        let input = Fails {
+            bytes: front(&bytes, len),
+            kind,
+        };
+        assert!(rt; says(&rt, &["-"], input, "", line.as_str())?, "{len}");
+        assert!(rt;
+            says(&rt, &["--json", "-"], input, object.as_str(), "")?,
+            "{len}"
+        );
+    }
+    Ok(())
+}
+
+fn front(bytes: &[u8], len: usize) -> &[u8] {
+    &bytes[..len.min(bytes.len())]
+}
+
+// It is wrong where a frame before is damaged, or the failure is called an end.
+#[test]
+fn files_that_are_wrong(rt: HostRuntime) -> Result<(), Fail> {
+    let (mut bytes, kind) = (frames_in_order(), ErrorKind::TimedOut);
+    let cut = Fails {
+        bytes: front(&bytes, 52),
+        kind: ErrorKind::UnexpectedEof,
+    };
+    let text =
+        "standard input: wrong, 0 frames, 0 samples, but the streaminfo says 1, 1 place\nstandard input:   bytes 42 to 52, samples 0 to 0: truncated: the file ends inside a frame\n";
+    assert!(rt; says(&rt, &["-"], cut, text, "")?);
+    bytes[52] ^= 1;
+    let failure = io::Error::from(kind);
+    let text = format!(in rt.alloc();
+        "standard input: wrong, 0 frames, 0 samples, but the streaminfo says 1, 2 places\nstandard input:   bytes 42 to 53, samples 0 to 0: Ill-formed FLAC stream: frame CRC mismatch\nstandard input:   byte 53, samples 0 to 0: {failure}\n"
+    )?;
+    let damaged = Fails {
+        bytes: front(&bytes, 53),
+        kind,
+    };
+    assert!(rt; says(&rt, &["-"], damaged, text.as_str(), "")?);
+    Ok(())
 }
 
 // Whether a run of the smallest head and two frames, one byte per read, has this result and writes this number of bytes of

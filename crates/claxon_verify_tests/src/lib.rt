@@ -10,8 +10,16 @@ mod hashing;
 #[cfg(test)]
 mod memory;
 #[cfg(test)]
+mod notes;
+#[cfg(test)]
+mod places;
+#[cfg(test)]
 mod reports;
 #[cfg(test)]
+mod streams;
+#[cfg(test)]
 mod trailing;
+#[cfg(test)]
+mod unsupported;
 #[cfg(test)]
 mod verify;

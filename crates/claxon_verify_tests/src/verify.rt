@@ -17,7 +17,7 @@ use std::test::Fail;
 
 // What is wrong in a place. Of a gap it is the number of frames or samples, and whether they are samples.
 #[derive(PartialEq, Clone, Copy)]
-enum Wrong {
+pub(crate) enum Wrong {
     Fault(Fault),
     Channels(u32),
     BitDepth(u32),
@@ -25,6 +25,7 @@ enum Wrong {
     BlockingStrategy,
     Missing(u64, bool),
     Repeated(u64, bool),
+    WideSample,
 }
 
 fn wrong_of(damage: &Damage) -> Wrong {
@@ -36,13 +37,14 @@ fn wrong_of(damage: &Damage) -> Wrong {
         Damage::BlockingStrategy => Wrong::BlockingStrategy,
         Damage::Missing(gap) => Wrong::Missing(gap.count, gap.is_variable),
         Damage::Repeated(gap) => Wrong::Repeated(gap.count, gap.is_variable),
+        Damage::WideSample => Wrong::WideSample,
     }
 }
 
 // The first byte of a place and that after it, its first sample and that after it, and what is wrong.
-type Found = (u64, u64, u64, u64, Wrong);
+pub(crate) type Found = (u64, u64, u64, u64, Wrong);
 
-fn found_of(place: &Place) -> Found {
+pub(crate) fn found_of(place: &Place) -> Found {
     (
         place.start_byte,
         place.end_byte,
@@ -69,7 +71,7 @@ fn said(report: &Report) -> Said {
     )
 }
 
-const CRC: Wrong = Wrong::Fault(Fault::Format("frame CRC mismatch"));
+pub(crate) const CRC: Wrong = Wrong::Fault(Fault::Format("frame CRC mismatch"));
 
 const CUT: Wrong = Wrong::Fault(Fault::Io);
 
@@ -223,6 +225,85 @@ fn orders_of_frames(rt: HostRuntime) -> Result<(), Fail> {
     Ok(())
 }
 
+// The smallest head, for other samples: these are the bytes in which their bit depth and the number of channels are.
+fn head_for(format: [u8; 2]) -> [u8; 42] {
+    let mut bytes = head(0x80);
+    bytes[20..22].copy_from_slice(&format);
+    bytes
+}
+
+const MONO_8_BITS: [u8; 2] = [0x40, 0x70];
+
+const STEREO_16_BITS: [u8; 2] = [0x42, 0xf0];
+
+const MONO_32_BITS: [u8; 2] = [0x41, 0xf0];
+
+// Frames of one sample: of number 0 with 127 and with 200, and of number 1 with -128 and with -129. Each sample is the residual of
+// a fixed predictor of order 0, in nine bits.
+pub(crate) const GREATEST: [u8; 13] = [
+    0xff, 0xf8, 0x69, 0x02, 0x00, 0x00, 0x9a, 0x10, 0x03, 0xd2, 0x7f, 0x14, 0xa0,
+];
+
+const WIDE: [u8; 13] = [
+    0xff, 0xf8, 0x69, 0x02, 0x00, 0x00, 0x9a, 0x10, 0x03, 0xd2, 0xc8, 0x17, 0x12,
+];
+
+pub(crate) const LEAST: [u8; 13] = [
+    0xff, 0xf8, 0x69, 0x02, 0x01, 0x00, 0x8f, 0x10, 0x03, 0xd3, 0x80, 0x97, 0xa9,
+];
+
+const WIDE_SECOND: [u8; 13] = [
+    0xff, 0xf8, 0x69, 0x02, 0x01, 0x00, 0x8f, 0x10, 0x03, 0xd3, 0x7f, 0x95, 0xab,
+];
+
+// Left is -32768 and side is 65535, so that right is -98303.
+const WIDE_RIGHT: [u8; 16] = [
+    0xff, 0xf8, 0x69, 0x88, 0x00, 0x00, 0x16, 0x00, 0x80, 0x00, 0x00, 0x7f, 0xff, 0x80, 0x95, 0x52,
+];
+
+// The least sample of 32 bits.
+const DEEPEST: [u8; 14] = [
+    0xff, 0xf8, 0x69, 0x00, 0x00, 0x00, 0x4c, 0x00, 0x80, 0x00, 0x00, 0x00, 0x0b, 0xb2,
+];
+
+// The format in the head, frames in order, and what is said. The head says that there is one sample.
+const WIDE_SAMPLES: [([u8; 2], &[&[u8]], Said); 7] = [
+    (MONO_8_BITS, &[&GREATEST], ((1, 1, 0), None, true)),
+    (MONO_8_BITS, &[&FRAME, &LEAST], ((2, 2, 0), None, false)),
+    (
+        MONO_8_BITS,
+        &[&WIDE],
+        ((1, 1, 0), Some((42, 55, 0, 1, Wrong::WideSample)), false),
+    ),
+    (
+        MONO_8_BITS,
+        &[&FRAME, &WIDE_SECOND],
+        ((2, 2, 0), Some((53, 66, 1, 2, Wrong::WideSample)), false),
+    ),
+    (
+        MONO_8_BITS,
+        &[&WIDE, &WIDE_SECOND],
+        ((2, 2, 0), Some((42, 68, 0, 2, Wrong::WideSample)), false),
+    ),
+    (
+        STEREO_16_BITS,
+        &[&WIDE_RIGHT],
+        ((1, 1, 0), Some((42, 58, 0, 1, Wrong::WideSample)), false),
+    ),
+    (MONO_32_BITS, &[&DEEPEST], ((1, 1, 0), None, true)),
+];
+
+#[test]
+fn wide_samples(rt: HostRuntime) -> Result<(), Fail> {
+    for (row, (format, frames, want)) in WIDE_SAMPLES.iter().enumerate() {
+        let bytes = joined(rt.alloc(), *frames)?;
+        let bytes = joined(rt.alloc(), &[&head_for(*format), &bytes])?;
+        let report = report_of(rt.alloc(), &mut Cursor::new(bytes.as_slice()), true)?;
+        assert!(rt; said(&report) == *want, "{row}");
+    }
+    Ok(())
+}
+
 fn verdict_name(md5: Md5Verdict) -> &'static str {
     match md5 {
         Md5Verdict::NotComputed => "not computed",
@@ -288,7 +369,7 @@ fn faults_of_heads(rt: HostRuntime) {
 #[test]
 fn progress(rt: HostRuntime) {
     let bytes = frames_in_order();
-    for (label, want) in [(Some("a  "), "\ra  100 %\r\x1b[K"), (None, "")] {
+    for (label, want) in [(Some("  a"), "\r100 %  a\r\x1b[K"), (None, "")] {
         let mut errors: Vec<u8> = Vec::new(rt.alloc());
         let mut progress = Progress::new(&mut errors, label);
         let mut input = Cursor::new(bytes.as_slice());
@@ -326,21 +407,21 @@ const LINES: [(usize, [bool; 2], u8, &str, &str); 8] = [
         63,
         [false, false],
         1,
-        "wrong, 1 frame, 1 sample, 1 place at byte 53 after 1 sample: 10 bytes after the last frame",
+        "wrong, 1 frame, 1 sample, 1 place",
         "bytes 53 to 63, samples 1 to 1: 10 bytes after the last frame",
     ),
     (
         52,
         [false, false],
         1,
-        "wrong, 0 frames, 0 samples, but the streaminfo says 1, 1 place at byte 42 after 0 samples: truncated: the file ends inside a frame",
+        "wrong, 0 frames, 0 samples, but the streaminfo says 1, 1 place",
         "bytes 42 to 52, samples 0 to 0: truncated: the file ends inside a frame",
     ),
     (
         64,
         [true, false],
         1,
-        "wrong, 1 frame, 1 sample, 1 place at byte 42 after 0 samples: Ill-formed FLAC stream: frame CRC mismatch",
+        "wrong, 1 frame, 1 sample, 1 place",
         "bytes 42 to 53, samples 0 to 16: Ill-formed FLAC stream: frame CRC mismatch",
     ),
     (
@@ -389,13 +470,6 @@ fn lines(rt: HostRuntime) -> Result<(), Fail> {
     Ok(())
 }
 
-// The smallest head, for samples of 32 bits.
-fn deep_head() -> [u8; 42] {
-    let mut bytes = head(0x80);
-    bytes[20..22].copy_from_slice(&[0x41, 0xf0]);
-    bytes
-}
-
 // Headers that are refused at their fourth byte because of a reserved code, after a frame.
 const REFUSED: [[u8; 4]; 2] = [[0xff, 0xf8, 0x69, 0x06], [0xff, 0xf8, 0x69, 0xbe]];
 
@@ -408,7 +482,7 @@ fn reserved_codes(rt: HostRuntime) -> Result<(), Fail> {
                 &rt,
                 bytes.as_slice(),
                 1,
-                "wrong, 2 frames, 2 samples, but the streaminfo says 1, 1 place at byte 64 after 2 samples: Ill-formed FLAC stream: invalid frame header, encountered reserved value",
+                "wrong, 2 frames, 2 samples, but the streaminfo says 1, 1 place",
                 "bytes 64 to 68, samples 2 to 2: Ill-formed FLAC stream: invalid frame header, encountered reserved value",
             )?
         );
@@ -419,7 +493,7 @@ fn reserved_codes(rt: HostRuntime) -> Result<(), Fail> {
 // A streaminfo of 32 bits: a frame that leaves the bit depth to it, and the code.
 #[test]
 fn samples_of_32_bits(rt: HostRuntime) -> Result<(), Fail> {
-    let (alloc, head) = (rt.alloc(), deep_head());
+    let (alloc, head) = (rt.alloc(), head_for(MONO_32_BITS));
     let right = joined(alloc, &[&head, &DEEP_FRAME])?;
     assert!(rt;
         has_lines(
@@ -500,9 +574,9 @@ fn lost_output(rt: HostRuntime) -> Result<(), Fail> {
 #[test]
 fn command_lines(rt: HostRuntime) -> Result<(), Fail> {
     let usage =
-        "usage: claxon verify [--no-md5] [--brief] [--json] [-q] [-r] [--files0-from FILE] [--] FILE..\n";
+        "usage: claxon verify [--no-md5] [--brief] [--json] [-q] [-r] [--summary] [--files0-from FILE] [--] FILE..\n";
     let other =
-        "claxon verify: unknown option -t\nusage: claxon verify [--no-md5] [--brief] [--json] [-q] [-r] [--files0-from FILE] [--] FILE..\n";
+        "claxon verify: unknown option -t\nusage: claxon verify [--no-md5] [--brief] [--json] [-q] [-r] [--summary] [--files0-from FILE] [--] FILE..\n";
     let rows: [(&[&str], &str); 4] = [
         (&[], usage),
         (&["--"], usage),

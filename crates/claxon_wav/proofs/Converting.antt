@@ -34,7 +34,7 @@ use Rattle.claxon_md5.specs.declared.Md5.{Md5}
 use Rattle.claxon_write.proofs.Counts.{flushed_after, none_failed, none_failed_both}
 use Rattle.claxon_blocks.proofs.BlockReads.{block_io, io_not_fault}
 use Rattle.claxon_blocks.proofs.FirstBytes.{fault_not_memory, refused}
-use Rattle.claxon_wav.specs.Convert.{CanBeConverted, CanBeConvertedTo, CanBePut, Converts, ConvertsToStream, ExplainsError, HashesBlocks, HoldsFile, HoldsUnknown, ConvertIsExcused, IsErrorAt, IsWholeStream, OutputFailed, PutsAndHashes, PutsBlocks, PutsSamples, StopsAtBlock, StopsPutting, OutputWriteFailed, packed_blocks}
+use Rattle.claxon_wav.specs.Convert.{CanBeConverted, CanBeConvertedTo, CanBePut, Converts, ConvertsToStream, ExplainsError, HashesBlocks, HoldsFile, HoldsOther, HoldsUnknown, ConvertIsExcused, IsErrorAt, IsWholeStream, OutputFailed, PutsAndHashes, PutsBefore, PutsBlocks, PutsSamples, StopsAtBlock, StopsPutting, OutputWriteFailed, packed_blocks}
 use Rattle.claxon_blocks.specs.Frames.{Is32BitFault}
 use Rattle.claxon_wav.specs.Samples.{bytes_of_sample, packed_block, packed_samples, shifted_sample, silence}
 use Rattle.claxon_wav.specs.Conversion.{IsVerdictOn}
@@ -289,14 +289,14 @@ module _ {W : Type 0} {contents : W → Option (List ℕ)} {stream : Option Stre
 -- all blocks were written, and then the end of the file failed
 pub end_explained : (stream : Option StreamFormat) (a b : State ℕ) {W : Type 0} (x y z : WavWriter W) (r : Result (Unit {0}) Error) → NoneFailed x y → FinishFaultIsSound r y z → IfErr r (ExplainsError stream a b x z)
 end_explained stream a b x y z (Ok done) none f = tt
-end_explained stream a b x y z (Err (Claxon cause)) none f = elim f [ inl m ↦ inl m | inr k ↦ absurd k.0 ]
-end_explained stream a b x y z (Err (Output cause)) none f = elim f [ inl m ↦ absurd m | inr k ↦ calls_failed_after x y z none k.1 ]
-end_explained stream a b x y z (Err TooLong) none f = elim f [ inl m ↦ absurd m | inr k ↦ absurd k.0 ]
-end_explained stream a b x y z (Err OtherChannels) none f = elim f [ inl m ↦ absurd m | inr k ↦ absurd k.0 ]
-end_explained stream a b x y z (Err WideSample) none f = elim f [ inl m ↦ absurd m | inr k ↦ absurd k.0 ]
-end_explained stream a b x y z (Err Unsupported32Bit) none f = elim f [ inl m ↦ absurd m | inr k ↦ absurd k.0 ]
-end_explained stream a b x y z (Err SameFile) none f = elim f [ inl m ↦ m | inr k ↦ k.0 ]
-end_explained stream a b x y z (Err Exists) none f = elim f [ inl m ↦ m | inr k ↦ k.0 ]
+end_explained stream a b x y z (Err (Claxon cause)) none f = absurd f.0
+end_explained stream a b x y z (Err (Output cause)) none f = calls_failed_after x y z none f.1
+end_explained stream a b x y z (Err TooLong) none f = absurd f.0
+end_explained stream a b x y z (Err OtherChannels) none f = absurd f.0
+end_explained stream a b x y z (Err WideSample) none f = absurd f.0
+end_explained stream a b x y z (Err Unsupported32Bit) none f = absurd f.0
+end_explained stream a b x y z (Err SameFile) none f = f.0
+end_explained stream a b x y z (Err Exists) none f = f.0
 
 -- ---- completeness
 
@@ -399,8 +399,24 @@ module _ (stream : Option StreamFormat) (bit_depth : IsBitDepth (known_bit_depth
 -- all blocks were written: the file is finished, or memory was refused or the output failed
 pub end_complete : {W : Type 0} (a b : State ℕ) (x y z : WavWriter W) (r : Result (Unit {0}) Error) → NoneFailed x y → FinishFaultIsSound r y z → IsOk r ⊎ (ConvertIsExcused r a b ⊎ OutputFailed r x z)
 end_complete a b x y z (Ok done) none f = inl refl
-end_complete a b x y z (Err e) none (inl m) = inr (inl (inl m))
-end_complete a b x y z (Err e) none (inr k) = inr (inr (k.0, calls_failed_after x y z none k.1))
+end_complete a b x y z (Err e) none f = inr (inr (f.0, calls_failed_after x y z none f.1))
+
+-- all blocks were written: no memory is asked for after that
+pub end_has_memory : {W : Type 0} (y z : WavWriter W) (r : Result (Unit {0}) Error) → FinishFaultIsSound r y z → IsErrAnd r IsMemory → ⊥
+end_has_memory y z (Ok done) f m = m
+end_has_memory y z (Err (Claxon cause)) f m = f.0
+end_has_memory y z (Err (Output cause)) f m = m
+end_has_memory y z (Err TooLong) f m = m
+end_has_memory y z (Err OtherChannels) f m = m
+end_has_memory y z (Err WideSample) f m = m
+end_has_memory y z (Err Unsupported32Bit) f m = m
+end_has_memory y z (Err SameFile) f m = m
+end_has_memory y z (Err Exists) f m = m
+
+-- all blocks were written, and then the end of the file was tried
+pub ended_after_all : {W : Type 0} (contents : W → Option (List ℕ)) (Tries : WavWriter W → WavWriter W → Type 0) (stream : Option StreamFormat) (a b : State ℕ) (x y z : WavWriter W) (r : Result (Unit {0}) Error) → PutsBlocks contents stream (Ok None) a b x y → Tries y z → IfErr r (λ e. (put : WavWriter W) × Tries put z × PutsBefore contents stream e a b x put)
+ended_after_all contents Tries stream a b x y z (Ok done) puts tries = tt
+ended_after_all contents Tries stream a b x y z (Err e) puts tries = (y, tries, inl puts)
 
 ok_unexcused : {A : Type 0} (a b : State ℕ) (x : A) → IsExcused (let q : Result A Cause = Ok x in q) a b → ⊥
 ok_unexcused a b x (inl m) = cc
@@ -425,18 +441,19 @@ no_pad (suc n) announced e =
 module _ {W : Type 0} (contents : W → Option (List ℕ)) where
   -- the header, the samples and the pad byte
   pub file : (blocks : List Block) (old put new : WavWriter W) → PutsSamples contents blocks old put → (put.announced ≡ put.written → Appends (output_contents contents put) (output_contents contents new) (pad put.written)) → HoldsFile contents blocks old new
-  file blocks old put new h ends layout announced output begins is =
+  file blocks old put new h ends fresh announced begins is =
+      let layout = fresh.layout in
       let size = length (packed_blocks layout.valid_bits blocks) in
-      let valid_bits : old.layout.valid_bits ≡ layout.valid_bits = ap (λ (l : Layout). l.valid_bits) begins.layout_is in
+      let valid_bits : old.layout.valid_bits ≡ layout.valid_bits = ap (λ (l : Layout). l.valid_bits) begins.writes.layout_is in
       let samples = packed_blocks layout.valid_bits blocks in
       let bytes : Appends (output_contents contents old) (output_contents contents put) samples = subst (λ (n : ℕ). Appends (output_contents contents old) (output_contents contents put) (packed_blocks n blocks)) valid_bits h.bytes_are in
       let counted : put.written ≡ old.written + size = subst (λ (n : ℕ). put.written ≡ old.written + length (packed_blocks n blocks)) valid_bits h.written_is in
-      let written : put.written ≡ announced = omega (arith, counted, begins.none_so_far, is) in
-      let right : put.announced ≡ put.written = h.announced_is ∙ begins.announced_is ∙ sym written in
+      let written : put.written ≡ announced = omega (arith, counted, begins.writes.none_so_far, is) in
+      let right : put.announced ≡ put.written = h.announced_is ∙ begins.writes.announced_is ∙ sym written in
       let padded : Appends (output_contents contents put) (output_contents contents new) (pad announced) = subst (λ (n : ℕ). Appends (output_contents contents put) (output_contents contents new) (pad n)) written (ends right) in
-      let front = Appends-trans (contents output.now) (output_contents contents old) (output_contents contents put) begins.header samples begins.written bytes in
-      let whole = Appends-trans (contents output.now) (output_contents contents put) (output_contents contents new) (begins.header ++ samples) (pad announced) front padded in
-      subst (λ (s : List ℕ). Appends (contents output.now) (output_contents contents new) s) (sym (begins.is_header samples (sym is))) whole
+      let front = Appends-trans (output_contents contents fresh) (output_contents contents old) (output_contents contents put) begins.header samples begins.writes.written bytes in
+      let whole = Appends-trans (output_contents contents fresh) (output_contents contents put) (output_contents contents new) (begins.header ++ samples) (pad announced) front padded in
+      subst (λ (s : List ℕ). Appends (output_contents contents fresh) (output_contents contents new) s) (sym (begins.is_header samples (sym is))) whole
 
 -- all blocks up to the end
 whole : {W : Type 0} {contents : W → Option (List ℕ)} {stream : Option StreamFormat} {a b : State ℕ} {old put : WavWriter W} (h : PutsBlocks contents stream (Ok None) a b old put) → IsWholeStream stream h.blocks a
@@ -468,29 +485,51 @@ module _ {W : Type 0} (contents : W → Option (List ℕ)) (put new : WavWriter 
   padded_where_none_announced : put.announced ≡ 0 → Appends (output_contents contents put) (output_contents contents new) []
   padded_where_none_announced e = subst (λ (s : List ℕ). Appends (output_contents contents put) (output_contents contents new) s) (no_pad put.written put.announced e) h
 
+  padded_where_other : put.written ≢ put.announced → Appends (output_contents contents put) (output_contents contents new) []
+  padded_where_other differ =
+      let none : (put.written == put.announced) ≡ false = grind (arith, nat_tests) in
+      subst (λ (b : Bool). Appends (output_contents contents put) (output_contents contents new) (cond b (pad put.written) [])) none h
+
   where_unknown : (blocks : List Block) (old : WavWriter W) → PutsSamples contents blocks old put → HoldsUnknown contents blocks old new
-  where_unknown blocks old h layout output begins =
+  where_unknown blocks old h fresh begins =
+      let layout = fresh.layout in
       let valid_bits : old.layout.valid_bits ≡ layout.valid_bits = ap (λ (l : Layout). l.valid_bits) begins.layout_is in
       let samples = packed_blocks layout.valid_bits blocks in
       let bytes : Appends (output_contents contents old) (output_contents contents put) samples = subst (λ (n : ℕ). Appends (output_contents contents old) (output_contents contents put) (packed_blocks n blocks)) valid_bits h.bytes_are in
-      let front = Appends-trans (contents output.now) (output_contents contents old) (output_contents contents put) (unknown_header layout) samples begins.written bytes in
-      let none : put.announced ≡ 0 = h.announced_is ∙ begins.none_announced in
-      let whole = Appends-trans (contents output.now) (output_contents contents put) (output_contents contents new) (unknown_header layout ++ samples) [] front (padded_where_none_announced none) in
-      subst (λ (s : List ℕ). Appends (contents output.now) (output_contents contents new) s) (append-nil (unknown_header layout ++ samples)) whole
+      let front = Appends-trans (output_contents contents fresh) (output_contents contents old) (output_contents contents put) (unknown_header layout) samples begins.written bytes in
+      let none : put.announced ≡ 0 = h.announced_is ∙ begins.announced_is in
+      let whole = Appends-trans (output_contents contents fresh) (output_contents contents put) (output_contents contents new) (unknown_header layout ++ samples) [] front (padded_where_none_announced none) in
+      subst (λ (s : List ℕ). Appends (output_contents contents fresh) (output_contents contents new) s) (append-nil (unknown_header layout ++ samples)) whole
+
+  -- after the header for another number it isn't written either
+  where_other : (blocks : List Block) (old : WavWriter W) → PutsSamples contents blocks old put → HoldsOther contents blocks old new
+  where_other blocks old h fresh announced begins differ =
+      let layout = fresh.layout in
+      let valid_bits : old.layout.valid_bits ≡ layout.valid_bits = ap (λ (l : Layout). l.valid_bits) begins.writes.layout_is in
+      let samples = packed_blocks layout.valid_bits blocks in
+      let bytes : Appends (output_contents contents old) (output_contents contents put) samples = subst (λ (n : ℕ). Appends (output_contents contents old) (output_contents contents put) (packed_blocks n blocks)) valid_bits h.bytes_are in
+      let counted : put.written ≡ old.written + length samples = subst (λ (n : ℕ). put.written ≡ old.written + length (packed_blocks n blocks)) valid_bits h.written_is in
+      let written : put.written ≡ length samples = omega (arith, counted, begins.writes.none_so_far) in
+      let other : put.written ≢ put.announced = λ e. differ (sym (h.announced_is ∙ begins.writes.announced_is) ∙ sym e ∙ written) in
+      let front = Appends-trans (output_contents contents fresh) (output_contents contents old) (output_contents contents put) begins.header samples begins.writes.written bytes in
+      let whole = Appends-trans (output_contents contents fresh) (output_contents contents put) (output_contents contents new) (begins.header ++ samples) [] front (padded_where_other other) in
+      (begins.header, begins.is_header, subst (λ (s : List ℕ). Appends (output_contents contents fresh) (output_contents contents new) s) (append-nil (begins.header ++ samples)) whole)
 
 -- the end of an output that can't seek
-pub converted_to_stream : {W : Type 0} {contents : W → Option (List ℕ)} {stream : Option StreamFormat} {a b : State ℕ} {old put : WavWriter W} {bit_depth : ℕ} {x y : Option Md5} (new : WavWriter W) (r : Result (Unit {0}) Error) → PutsAndHashes contents stream bit_depth a b old put x y → FinishStreamIsSound contents r put new → FinishFlushes r put new
+pub converted_to_stream : {W : Type 0} {contents : W → Option (List ℕ)} {stream : Option StreamFormat} {a b : State ℕ} {old put : WavWriter W} {bit_depth : ℕ} {x y : Option Md5} (new : WavWriter W) (r : Result (Unit {0}) Error) → PutsAndHashes contents stream bit_depth a b old put x y → FinishStreamIsSound contents r put new → FinishFlushes r put new → SameHeader put new
     → OnOk r (ConvertsToStream contents stream bit_depth a old new x y)
-converted_to_stream new (Err e) k finishes flushes = tt
-converted_to_stream {contents = contents} {old = old} {put = put} new (Ok done) k finishes flushes = let h = k.put in record {
+converted_to_stream new (Err e) k finishes flushes same = tt
+converted_to_stream {contents = contents} {old = old} {put = put} new (Ok done) k finishes flushes same = let h = k.put in record {
   blocks = h.blocks;
   all = whole h;
   put = put;
   puts = h.puts;
   hashes = k.hashes;
   written_is = finishes.1;
+  layout_is = same.layout_is;
   file = file contents h.blocks old put new h.puts (padded_where_right contents put new finishes.0);
   unknown = where_unknown contents put new finishes.0 h.blocks old h.puts;
+  other = where_other contents put new finishes.0 h.blocks old h.puts;
   none_failed = none_failed_both h.puts.none_failed flushes.0;
   flushed = flushed_after h.puts.unflushed flushes.1;
 }

@@ -8,9 +8,9 @@ use Rattle.claxon.specs.Errors.{Error as Cause}
 use Rattle.claxon_write.specs.CountingWriter.{CountsFailedFlush, CountsFailedSeek, CountsFailedWrite, CountsFlush, CountsNoFailure, CountsNoFlush}
 use Rattle.claxon_write.specs.declared.counting_writer.CountingWriter.{CountingWriter}
 use Rattle.claxon_write.proofs.Counts.{flush_failed_after, flushed_after, none_failed_both}
-use Rattle.claxon_wav.specs.WavError.{IsMemory, IsOutput, IsOutputResult}
+use Rattle.claxon_wav.specs.WavError.{IsOutput, IsOutputResult}
 use Rattle.claxon_wav.specs.WaveFile.{pad}
-use Rattle.claxon_wav.specs.Writer.{Ends, FinishIsSound, HeaderIsRight, UpdatesHeader, UpdateHeaderIsSound, SameHeader, WritesHeader, output_contents}
+use Rattle.claxon_wav.specs.Writer.{Ends, FinishFlushes, FinishIsSound, HeaderIsRight, SameHeader, TriesToEnd, TriesToPad, UpdateFaultIsSound, UpdatesHeader, UpdateHeaderIsSound, WritesHeader, output_contents}
 use Rattle.claxon_wav.specs.declared.error.Error.{Error}
 use Rattle.claxon_wav.specs.declared.header.Layout.{Layout}
 use Rattle.claxon_wav.specs.declared.writer.WavWriter.{WavWriter}
@@ -39,9 +39,9 @@ module _ {A : Type 0} where
     flush_succeeds (Err e) h s f = tt
     flush_succeeds (Ok value) h s f = (none_failed_both none (output_succeeded answer (Ok value) value h refl s), flushed_after unflushed f)
 
-    pub flush_fails : (r : Result A Error) → IsOutputResult answer r → OnErr answer (CountsFailedFlush b c) → IfErr r (λ e. (IsMemory e × CountsNoFailure a c) ⊎ (IsOutput e × (CountsFailedWrite a c ⊎ (CountsFailedFlush a c ⊎ CountsFailedSeek a c))))
+    pub flush_fails : (r : Result A Error) → IsOutputResult answer r → OnErr answer (CountsFailedFlush b c) → IfErr r (λ e. IsOutput e × (CountsFailedWrite a c ⊎ (CountsFailedFlush a c ⊎ CountsFailedSeek a c)))
     flush_fails (Ok value) h f = tt
-    flush_fails (Err e) h f = let k = output_failed answer (Err e) e h refl f in inr (k.0, inr (inl (flush_failed_after none k.1)))
+    flush_fails (Err e) h f = let k = output_failed answer (Err e) e h refl f in (k.0, inr (inl (flush_failed_after none k.1)))
 
 -- a seek to the start
 pub at_start : {A : Type 0} (old new : Option ℕ) (answer : Result A Cause) (r : Result A Error) (value : A) → IsOutputResult answer r → r ≡ Ok value → MovesTo old new 0 answer → IfSome old (λ _. new ≡ Some 0)
@@ -71,3 +71,9 @@ pub finishes : {W : Type 0} (contents : W → Option (List ℕ)) (position : W �
     → UpdateHeaderIsSound contents position r padded new → FinishIsSound contents position r old new
 finishes contents position (Ok done) old padded new p same count m = ends contents position old padded new p same count m
 finishes contents position (Err e) old padded new p same count m = tt
+
+-- the header, after the pad byte was tried
+pub tries : {W : Type 0} (contents : W → Option (List ℕ)) (position : W → Option ℕ) (r : Result (Unit {0}) Error) (old padded new : WavWriter W) → TriesToPad contents old padded.output → SameHeader old padded → padded.written ≡ old.written → UpdateHeaderIsSound contents position r padded new → FinishFlushes r padded new
+    → UpdateFaultIsSound r padded new → TriesToEnd contents old new
+tries contents position (Ok done) old padded new p same count m flushes fails = record { padded = padded.output; pads = p; ends = inl (record { announced_is = m.1.announced_is ∙ count; written_is = m.1.written_is ∙ count; layout_is = m.1.layout_is ∙ same.layout_is }, flushes.1) }
+tries contents position (Err e) old padded new p same count m flushes fails = record { padded = padded.output; pads = p; ends = inr fails.1 }

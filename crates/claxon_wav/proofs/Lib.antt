@@ -6,5 +6,9 @@ pub mod Converting
 pub mod Ending
 -- Samples as the bytes of a WAV file.
 pub mod PackedSamples
--- Whether all samples so far satisfy a predicate.
-pub mod SamplesFit
+-- Memory that blocks use again, one after another.
+pub mod BlockMemory
+-- The number of samples that a file holds.
+pub mod SampleCounts
+-- Files that are written as planned.
+pub mod Planned

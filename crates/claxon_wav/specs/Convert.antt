@@ -2,6 +2,7 @@
 use Rattle.std.specs.Prelude.{
   All,
   ◌≡◌,
+  ◌≢◌,
   ◌⊎◌,
   ℕ,
   ◌+◌,
@@ -24,7 +25,6 @@ use Rattle.std.specs.Prelude.{
   OnOk,
   Some,
 }
-use Rattle.std.specs.Borrow.{MutBor}
 use Rattle.std.specs.Io.KnownBytes.{Appends}
 use Rattle.claxon.specs.Bits.{FitsIn}
 use Rattle.claxon.specs.Block.{BlockValue}
@@ -42,13 +42,15 @@ use Rattle.claxon.specs.SampleRuns.{ConsumesFrames, ReadsFrames, samples_of}
 use Rattle.claxon.specs.declared.reader.FlacReader.{FlacReader}
 use Rattle.claxon_md5.specs.HasherCalls.{HashesSamples}
 use Rattle.claxon_md5.specs.declared.Md5.{Md5}
+use Rattle.claxon.specs.Streams.{interleave}
+use Rattle.claxon_write.specs.Decoded.{StopsAtLargerBlock}
 use Rattle.claxon_write.specs.WriteSamples.{flac_stream}
 use Rattle.claxon_wav.specs.DataSize.{max_data_size}
 use Rattle.claxon_blocks.specs.Frames.{Is32BitFault, Says32Bits}
 use Rattle.claxon_wav.specs.Samples.{packed_samples}
 use Rattle.claxon_blocks.specs.Frames.{IsNotWhole}
 use Rattle.claxon_wav.specs.WavError.{IsInput, IsMemory, IsOutput, NamesFault}
-use Rattle.claxon_wav.specs.WaveFile.{unknown_header, wave_file}
+use Rattle.claxon_wav.specs.WaveFile.{IsHeader, unknown_header, wave_file}
 use Rattle.claxon_wav.specs.Writer.{
   Begins,
   BeginsUnknown,
@@ -59,6 +61,8 @@ use Rattle.claxon_wav.specs.Writer.{
   FlushedLast,
   HeaderIsRight,
   NoneFailed,
+  TriesToEnd,
+  TriesToEndStream,
   Unflushed,
   WritesFailed,
   output_contents,
@@ -74,7 +78,6 @@ use Rattle.claxon_wav.specs.declared.error.Error.TheVariants.{
   Unsupported32Bit,
   WideSample,
 }
-use Rattle.claxon_wav.specs.declared.header.Layout.{Layout}
 use Rattle.claxon_wav.specs.declared.writer.WavWriter.{WavWriter}
 
 -- the bytes of the samples of blocks, one block after another
@@ -147,6 +150,13 @@ StopsPutting contents stream error a b old new =
     StopsAtFault contents stream error a b old new
     ⊎ StopsAtBlock contents stream error a b old new
 
+-- All blocks were written up to the end of the stream, or to what the error says.
+abbrev pub PutsBefore : {W : Type 0} → (W → Option (List ℕ)) → Option StreamFormat → Error
+    → State ℕ → State ℕ → WavWriter W → WavWriter W → Type 0
+PutsBefore contents stream error a b old new =
+    PutsBlocks contents stream (Ok None) a b old new
+    ⊎ StopsPutting contents stream error a b old new
+
 -- All blocks up to the end of the stream were written, and the samples of the same blocks were
 -- hashed. `hasher` and `hashed` are the hasher before and after.
 pub record PutsAndHashes {W : Type 0} (contents : W → Option (List ℕ))
@@ -174,16 +184,15 @@ abbrev pub IsWholeStream : Option StreamFormat → List Block → State ℕ → 
 IsWholeStream stream blocks s =
     RemainingIsKnown s → (rest : List ℕ) × Frames stream s.remaining blocks rest × (length rest < 2)
 
--- The output has, after what it contained when the writer was started, a complete WAV file of these
--- samples, if the first header announced the right number of bytes.
+-- The output has, after what it contained before the header, a complete WAV file of these samples,
+-- if the header announced the right number of bytes.
 abbrev pub HoldsFile : {W : Type 0} → (W → Option (List ℕ)) → List Block → WavWriter W → WavWriter W
     → Type 0
 HoldsFile {W} contents blocks old new =
-    (layout : Layout) (announced : ℕ) (output : MutBor W)
-    → Begins contents layout announced output old
-    → announced ≡ length (packed_blocks layout.valid_bits blocks)
-    → Appends (contents output.now) (output_contents contents new)
-    (wave_file layout (packed_blocks layout.valid_bits blocks))
+    (fresh : WavWriter W) (announced : ℕ) → Begins contents announced fresh old
+    → announced ≡ length (packed_blocks fresh.layout.valid_bits blocks)
+    → Appends (output_contents contents fresh) (output_contents contents new)
+    (wave_file fresh.layout (packed_blocks fresh.layout.valid_bits blocks))
 
 -- Exactly the samples of all blocks up to the end of the stream were written, and then the file was
 -- finished. No call of the output failed, and the last one was the only flush. The samples of the
@@ -214,14 +223,25 @@ IsSound contents position remaining flac r old new hasher hashed =
     OnOk r (Converts contents position (flac_stream flac) (flac_bit_depth flac)
     (flac_bytes remaining flac) old new hasher hashed)
 
--- The output has, after what it contained when the writer was started for samples of unknown
--- number, that header and these samples.
+-- The output has, after what it contained before the header for samples of unknown number, that
+-- header and these samples.
 abbrev pub HoldsUnknown : {W : Type 0} → (W → Option (List ℕ)) → List Block → WavWriter W
     → WavWriter W → Type 0
 HoldsUnknown {W} contents blocks old new =
-    (layout : Layout) (output : MutBor W) → BeginsUnknown contents layout output old
-    → Appends (contents output.now) (output_contents contents new)
-    (unknown_header layout ++ packed_blocks layout.valid_bits blocks)
+    (fresh : WavWriter W) → BeginsUnknown contents fresh old
+    → Appends (output_contents contents fresh) (output_contents contents new)
+    (unknown_header fresh.layout ++ packed_blocks fresh.layout.valid_bits blocks)
+
+-- The output has, after what it contained before the header, a header that announces another number
+-- of bytes, and these samples.
+abbrev pub HoldsOther : {W : Type 0} → (W → Option (List ℕ)) → List Block → WavWriter W
+    → WavWriter W → Type 0
+HoldsOther {W} contents blocks old new =
+    (fresh : WavWriter W) (announced : ℕ) → Begins contents announced fresh old
+    → announced ≢ length (packed_blocks fresh.layout.valid_bits blocks)
+    → (header : List ℕ) × IsHeader fresh.layout announced header
+    × Appends (output_contents contents fresh) (output_contents contents new)
+    (header ++ packed_blocks fresh.layout.valid_bits blocks)
 
 -- Exactly the samples of all blocks up to the end of the stream were written, after a header that
 -- was not corrected. No call of the output failed, and the last one was the only flush. The samples
@@ -234,8 +254,10 @@ pub record ConvertsToStream {W : Type 0} (contents : W → Option (List ℕ))
   pub put : WavWriter W
   pub puts : PutsSamples contents blocks old put
   pub written_is : new.written ≡ put.written
+  pub layout_is : new.layout ≡ put.layout
   pub file : HoldsFile contents blocks old new
   pub unknown : HoldsUnknown contents blocks old new
+  pub other : HoldsOther contents blocks old new
   pub none_failed : NoneFailed old new
   pub flushed : FlushedLast old new
   pub hashes : HashesBlocks bit_depth blocks hasher hashed
@@ -301,6 +323,26 @@ ExplainsError stream a b old new (Output cause) = CallsFailed old new
 ExplainsError stream a b old new SameFile = ⊥
 ExplainsError stream a b old new Exists = ⊥
 
+-- ---- memory
+
+-- The block has fewer than n samples.
+abbrev pub HasFewerThan : ℕ → Block → Type 0
+HasFewerThan n b = length (interleave b.channels) < n
+
+-- Exactly the frames of some blocks were consumed. The last one has more samples than each other.
+pub record StopsAfterLargerBlock (stream : Option StreamFormat) (old new : State ℕ) : Type 0 where
+  pub blocks : List Block
+  pub last : Block
+  pub frames : ConsumesFrames stream (blocks ++ last ∷ []) old new
+  pub fewer : All (HasFewerThan (length (interleave last.channels))) blocks
+
+-- `OutOfMemory` is returned only at a block that has more samples than each before it in this call:
+-- their memory is used again. Its frame was consumed, or just the header.
+abbrev pub PutOutOfMemoryForLargerBlock : Option StreamFormat → Result (Unit {0}) Error → State ℕ
+    → State ℕ → Type 0
+PutOutOfMemoryForLargerBlock stream r old new =
+    IsErrAnd r IsMemory → StopsAtLargerBlock stream old new ⊎ StopsAfterLargerBlock stream old new
+
 -- ---- completeness
 
 -- Each of these blocks has the channels of the layout, each sample fits in its valid bits, and a
@@ -354,6 +396,27 @@ module _ {R A W : Type 0} (remaining : R → Option (List ℕ)) (result : Result
   ConvertFaultIsSound =
       IfErr result (ExplainsError (flac_stream before) (flac_bytes remaining before)
       (flac_bytes remaining after) old new)
+
+  -- `OutOfMemory` is returned only at a block that has more samples than each before it.
+  abbrev pub ConvertOutOfMemoryForLargerBlock : Type 0
+  ConvertOutOfMemoryForLargerBlock =
+      PutOutOfMemoryForLargerBlock (flac_stream before) result (flac_bytes remaining before)
+      (flac_bytes remaining after)
+
+  -- After an Err the samples before it were written, and the file was finished, or a call of the
+  -- output failed.
+  abbrev pub ConvertFaultFinishes : (W → Option (List ℕ)) → Type 0
+  ConvertFaultFinishes contents =
+      IfErr result (λ error. (put : WavWriter W) × TriesToEnd contents put new
+      × PutsBefore contents (flac_stream before) error (flac_bytes remaining before)
+      (flac_bytes remaining after) old put)
+
+  -- The same of an output that can't seek: the end was tried, as `finish_stream` does.
+  abbrev pub ConvertFaultEnds : (W → Option (List ℕ)) → Type 0
+  ConvertFaultEnds contents =
+      IfErr result (λ error. (put : WavWriter W) × TriesToEndStream contents put new
+      × PutsBefore contents (flac_stream before) error (flac_bytes remaining before)
+      (flac_bytes remaining after) old put)
 
   -- Where a stream remains that can be converted, the result is an Ok, or memory was refused, or
   -- the source or the output failed.

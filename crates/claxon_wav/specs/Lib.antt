@@ -6,4 +6,5 @@ pub mod Samples
 pub mod Writer
 pub mod AnnouncedSize
 pub mod Conversion
+pub mod Plan
 pub mod WavError

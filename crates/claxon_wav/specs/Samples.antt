@@ -9,10 +9,15 @@ use Rattle.std.specs.Prelude.{
   ◌*◌,
   ◌^◌,
   ◌%◌,
+  ◌≤◌,
   ℤ,
   List,
+  length,
   if◌then◌else◌,
   take,
+  IsErrAnd,
+  Result,
+  OnOk,
 }
 use Rattle.std.specs.Int.{cast_unsigned, to_le_bytes, w32}
 use Rattle.std.specs.List.{flat_map}
@@ -20,6 +25,7 @@ use Rattle.claxon.specs.Bits.{FitsIn}
 use Rattle.claxon.specs.Streams.{interleave}
 use Rattle.claxon.specs.Block.{BlockValue}
 use Rattle.claxon.specs.Errors.TheVariants.{OutOfMemory}
+use Rattle.claxon_wav.specs.WavError.{IsMemory}
 use Rattle.claxon_wav.specs.WaveFile.{sample_size}
 use Rattle.claxon_wav.specs.declared.error.Error.{Error}
 use Rattle.claxon_wav.specs.declared.error.Error.TheVariants.{Claxon, WideSample}
@@ -49,3 +55,23 @@ packed_block valid_bits block = packed_samples valid_bits (interleave block.chan
 abbrev pub IsTooWide : ℕ → Error → List ℤ → Type 0
 IsTooWide valid_bits WideSample xs = All (FitsIn valid_bits) xs → ⊥
 IsTooWide valid_bits error xs = error ≡ Claxon OutOfMemory
+
+-- Buffers of these capacities hold n samples, and their bytes.
+abbrev pub HaveCapacity : ℕ → ℕ → ℕ → ℕ → Type 0
+HaveCapacity valid_bits n interleaved bytes =
+    (n ≤ interleaved) × (n * sample_size valid_bits ≤ bytes)
+
+-- Buffers of these capacities hold the samples of the block, and their bytes.
+abbrev pub HoldBlock : ℕ → BlockValue → ℕ → ℕ → Type 0
+HoldBlock valid_bits block interleaved bytes =
+    HaveCapacity valid_bits (length (interleave block.channels)) interleaved bytes
+
+-- With these capacities no memory is refused.
+abbrev pub PackHasMemory : ℕ → BlockValue → Result (Unit {0}) Error → ℕ → ℕ → Type 0
+PackHasMemory valid_bits block r interleaved bytes =
+    IsErrAnd r IsMemory → HoldBlock valid_bits block interleaved bytes → ⊥
+
+-- An Ok left these capacities.
+abbrev pub PackTakesRoom : ℕ → BlockValue → Result (Unit {0}) Error → ℕ → ℕ → Type 0
+PackTakesRoom valid_bits block r interleaved bytes =
+    OnOk r (HoldBlock valid_bits block interleaved bytes)

@@ -25,12 +25,13 @@ use Rattle.std.specs.Prelude.{
   None,
   Some,
   Result,
+  OnErr,
   OnOk,
 }
 use Rattle.std.specs.declared.alloc.AllocError.{AllocError}
 use Rattle.std.specs.Int.{div_ceil, to_le_bytes, w16, w32}
 use Rattle.claxon_wav.specs.ChannelMask.{channel_mask_of}
-use Rattle.claxon_wav.specs.DataSize.{max_data_size}
+use Rattle.claxon_wav.specs.DataSize.{max_data_size, max_header_size}
 use Rattle.claxon_wav.specs.declared.header.Layout.{Layout}
 
 -- its number of channels
@@ -113,6 +114,10 @@ IsHeader l size header =
 -- An Ok left just the header for `size` bytes of samples.
 abbrev pub PutHeaderIsSound : Layout → ℕ → Result (Unit {0}) AllocError → List ℕ → Type 0
 PutHeaderIsSound l size r bytes = OnOk r (IsHeader l size bytes)
+
+-- Memory is refused only where this capacity is too small for the longest header.
+abbrev pub FailsAtCapacity : ℕ → Result (Unit {0}) AllocError → Type 0
+FailsAtCapacity capacity r = OnErr r (capacity < max_header_size)
 
 -- the number of bytes of `count` samples per channel, or None if the file would be too large for
 -- its 32-bit size

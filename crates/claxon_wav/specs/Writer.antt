@@ -16,13 +16,15 @@ use Rattle.std.specs.Prelude.{
   [],
   if◌then◌else◌,
   length,
+  None,
   Option,
   Some,
   Result,
   IfErr,
-  IfOk,
   IfSome,
+  IsErrAnd,
   OnOk,
+  vec_capacity,
 }
 use Rattle.std.specs.Io.KnownBytes.{Appends, Keeps}
 use Rattle.claxon.specs.Bits.{FitsIn}
@@ -35,18 +37,19 @@ use Rattle.claxon_write.specs.CountingWriter.{
   CountsFlush,
   CountsNoFailure,
   CountsNoFlush,
+  IsInnerOf,
+  IsNewCountingWriter,
   SameInner,
   failed_flushes_of,
   failed_seeks_of,
   failed_writes_of,
   inner_contents,
-  inner_name,
   inner_writer,
 }
 use Rattle.claxon_write.specs.Written.{AppendsPrefix}
 use Rattle.claxon_write.specs.declared.counting_writer.CountingWriter.{CountingWriter}
 use Rattle.claxon_wav.specs.DataSize.{max_data_size}
-use Rattle.claxon_wav.specs.Samples.{packed_block}
+use Rattle.claxon_wav.specs.Samples.{HaveCapacity, packed_block}
 use Rattle.claxon_wav.specs.WavError.{IsMemory, IsOutput}
 use Rattle.claxon_wav.specs.WaveFile.{IsHeader, block_align, pad, unknown_header}
 use Rattle.claxon_wav.specs.declared.error.Error.{Error}
@@ -107,56 +110,66 @@ FlushedLast old new = CountsFlush old.output new.output
 
 -- ---- the start
 
--- This header was written to the output, and no samples yet.
-pub record WritesOnlyHeader {W : Type 0} (contents : W → Option (List ℕ)) (header : List ℕ)
-    (layout : Layout) (announced : ℕ) (output : MutBor W) (new : WavWriter W) : Type 0 where
-  pub same_reference : inner_name new.output ≡ output.ghost_name
-  pub written : Appends (contents output.now) (output_contents contents new) header
+-- It borrows this output, for a file of this layout. Nothing was written.
+pub record IsNewWriter {W : Type 0} (layout : Layout) (output : MutBor W) (new : WavWriter W) :
+    Type 0 where
+  pub counts : IsNewCountingWriter output new.output
   pub layout_is : new.layout ≡ layout
+  pub none_written : new.written ≡ 0
+
+-- This is the reference to the output, which is as it was left.
+abbrev pub IsOutputOf : {W : Type 0} → WavWriter W → MutBor W → Type 0
+IsOutputOf file output = IsInnerOf file.output output
+
+-- This header, which announces so many bytes, was written after all earlier bytes, and no samples
+-- yet. No call failed.
+pub record WritesOnlyHeader {W : Type 0} (contents : W → Option (List ℕ)) (header : List ℕ)
+    (announced : ℕ) (old new : WavWriter W) : Type 0 where
+  pub written : Appends (output_contents contents old) (output_contents contents new) header
+  pub layout_is : new.layout ≡ old.layout
   pub announced_is : new.announced ≡ announced
   pub none_so_far : new.written ≡ 0
+  pub none_failed : NoneFailed old new
 
 -- An Ok wrote this header.
-abbrev pub BeginIsSound : {W : Type 0} → (W → Option (List ℕ)) → List ℕ → Layout → ℕ → MutBor W
-    → Result (WavWriter W) Error → Type 0
-BeginIsSound contents header layout announced output r =
-    IfOk r (λ new. WritesOnlyHeader contents header layout announced output new)
+abbrev pub BeginIsSound : {W : Type 0} → (W → Option (List ℕ)) → List ℕ → ℕ
+    → Result (Unit {0}) Error → WavWriter W → WavWriter W → Type 0
+BeginIsSound contents header announced r old new =
+    OnOk r (WritesOnlyHeader contents header announced old new)
 
 -- A header that announces this number of bytes was written, and no samples yet.
-pub record Begins {W : Type 0} (contents : W → Option (List ℕ)) (layout : Layout) (announced : ℕ)
-    (output : MutBor W) (new : WavWriter W) : Type 0 where
-  pub same_reference : inner_name new.output ≡ output.ghost_name
+pub record Begins {W : Type 0} (contents : W → Option (List ℕ)) (announced : ℕ)
+    (old new : WavWriter W) : Type 0 where
   pub header : List ℕ
-  pub is_header : IsHeader layout announced header
-  pub written : Appends (contents output.now) (output_contents contents new) header
-  pub layout_is : new.layout ≡ layout
-  pub announced_is : new.announced ≡ announced
-  pub none_so_far : new.written ≡ 0
+  pub is_header : IsHeader old.layout announced header
+  pub writes : WritesOnlyHeader contents header announced old new
 
 -- An Ok wrote such a header.
-abbrev pub StartIsSound : {W : Type 0} → (W → Option (List ℕ)) → Layout → ℕ → MutBor W
-    → Result (WavWriter W) Error → Type 0
-StartIsSound contents layout announced output r =
-    IfOk r (λ new. Begins contents layout announced output new)
+abbrev pub StartIsSound : {W : Type 0} → (W → Option (List ℕ)) → ℕ → Result (Unit {0}) Error
+    → WavWriter W → WavWriter W → Type 0
+StartIsSound contents announced r old new = OnOk r (Begins contents announced old new)
 
 -- The header for samples of unknown number was written, and no samples yet.
-pub record BeginsUnknown {W : Type 0} (contents : W → Option (List ℕ)) (layout : Layout)
-    (output : MutBor W) (new : WavWriter W) : Type 0 where
-  pub same_reference : inner_name new.output ≡ output.ghost_name
-  pub written : Appends (contents output.now) (output_contents contents new) (unknown_header layout)
-  pub layout_is : new.layout ≡ layout
-  pub none_so_far : new.written ≡ 0
-  pub none_announced : new.announced ≡ 0
+abbrev pub BeginsUnknown : {W : Type 0} → (W → Option (List ℕ)) → WavWriter W → WavWriter W → Type 0
+BeginsUnknown contents old new =
+    WritesOnlyHeader contents (unknown_header old.layout) 0 old new
 
 -- An Ok wrote that header.
-abbrev pub StartUnknownIsSound : {W : Type 0} → (W → Option (List ℕ)) → Layout → MutBor W
-    → Result (WavWriter W) Error → Type 0
-StartUnknownIsSound contents layout output r =
-    IfOk r (λ new. BeginsUnknown contents layout output new)
+abbrev pub StartUnknownIsSound : {W : Type 0} → (W → Option (List ℕ)) → Result (Unit {0}) Error
+    → WavWriter W → WavWriter W → Type 0
+StartUnknownIsSound contents r old new = OnOk r (BeginsUnknown contents old new)
 
--- An Err is `OutOfMemory`, or a failed call of the output.
-abbrev pub StartFaultIsSound : {A : Type 0} → Result A Error → Type 0
-StartFaultIsSound r = IfErr r (λ error. IsMemory error ⊎ IsOutput error)
+-- A header that announces this number of bytes was written, or that for an unknown number.
+abbrev pub BeginsAs : {W : Type 0} → (W → Option (List ℕ)) → Option ℕ → WavWriter W → WavWriter W
+    → Type 0
+BeginsAs contents None old new = BeginsUnknown contents old new
+BeginsAs contents (Some announced) old new = Begins contents announced old new
+
+-- An Err is a failed write, which was counted.
+abbrev pub StartFaultIsSound : {W : Type 0} → Result (Unit {0}) Error → WavWriter W → WavWriter W
+    → Type 0
+StartFaultIsSound r old new =
+    IfErr r (λ error. IsOutput error × CountsFailedWrite old.output new.output)
 
 -- ---- blocks
 
@@ -221,6 +234,26 @@ abbrev pub PutBlockFaultKeeps : {W : Type 0} → (W → Option (List ℕ)) → B
 PutBlockFaultKeeps contents block r old new =
     IfErr r (λ error. (new.written ≡ old.written) × BlockErrorKeeps contents block error old new)
 
+-- Blocks of up to n samples in all channels take no more memory.
+abbrev pub HasRoomFor : {W : Type 0} → ℕ → WavWriter W → Type 0
+HasRoomFor n file =
+    HaveCapacity file.layout.valid_bits n (vec_capacity file.interleaved) (vec_capacity file.bytes)
+
+-- Where no more memory is taken, none is refused.
+abbrev pub PutBlockHasMemory : {W : Type 0} → BlockValue → Result (Unit {0}) Error → WavWriter W
+    → Type 0
+PutBlockHasMemory block r old =
+    IsErrAnd r IsMemory → HasRoomFor (length (interleave block.channels)) old → ⊥
+
+-- The memory is kept.
+abbrev pub KeepsRoom : {W : Type 0} → WavWriter W → WavWriter W → Type 0
+KeepsRoom old new = (n : ℕ) → HasRoomFor n old → HasRoomFor n new
+
+-- After an Ok so is that for the block.
+abbrev pub PutBlockTakesRoom : {W : Type 0} → BlockValue → Result (Unit {0}) Error → WavWriter W
+    → Type 0
+PutBlockTakesRoom block r new = OnOk r (HasRoomFor (length (interleave block.channels)) new)
+
 -- The layout and the announced number of bytes stay the same.
 pub record SameHeader {W : Type 0} (old new : WavWriter W) : Type 0 where
   pub layout_is : new.layout ≡ old.layout
@@ -269,13 +302,10 @@ abbrev pub UpdateHeaderIsSound : {W : Type 0} → (W → Option (List ℕ)) → 
 UpdateHeaderIsSound contents position r old new =
     OnOk r (UpdatesHeader contents position old new × HeaderIsRight old new)
 
--- An Err is `OutOfMemory`, without a failed call of the output; or a failed write, flush or
--- seek, which was counted.
+-- An Err is a failed write, flush or seek, which was counted.
 abbrev pub UpdateFaultIsSound : {W : Type 0} → Result (Unit {0}) Error → WavWriter W → WavWriter W
     → Type 0
-UpdateFaultIsSound r old new =
-    IfErr r (λ error.
-    (IsMemory error × NoneFailed old new) ⊎ (IsOutput error × OneCallFailed old new))
+UpdateFaultIsSound r old new = IfErr r (λ error. IsOutput error × OneCallFailed old new)
 
 -- The pad byte was written after all earlier bytes. If the header was right, nothing else was
 -- written; else the right header was.
@@ -298,15 +328,41 @@ abbrev pub FinishFlushes : {W : Type 0} → Result (Unit {0}) Error → WavWrite
     → Type 0
 FinishFlushes r old new = OnOk r (NoneFailed old new × FlushedLast old new)
 
--- An Err is `OutOfMemory`, or a failed call of the output, and one was counted.
+-- An Err is a failed call of the output, and one was counted.
 abbrev pub FinishFaultIsSound : {W : Type 0} → Result (Unit {0}) Error → WavWriter W → WavWriter W
     → Type 0
-FinishFaultIsSound r old new =
-    IfErr r (λ error. IsMemory error ⊎ (IsOutput error × CallsFailed old new))
+FinishFaultIsSound r old new = IfErr r (λ error. IsOutput error × CallsFailed old new)
+
+-- The pad byte was written after all earlier bytes, or the write failed. Either was counted.
+abbrev pub TriesToPad : {W : Type 0} → (W → Option (List ℕ)) → WavWriter W → CountingWriter W
+    → Type 0
+TriesToPad contents old padded =
+    (Appends (output_contents contents old) (inner_contents contents padded) (pad old.written)
+    × CountsNoFailure old.output padded)
+    ⊎ CountsFailedWrite old.output padded
+
+-- The header is right after a flush, or a call failed after the pad byte was tried.
+pub record TriesToEnd {W : Type 0} (contents : W → Option (List ℕ)) (old new : WavWriter W) : Type 0
+  where
+    pub padded : CountingWriter W
+    pub pads : TriesToPad contents old padded
+    pub ends : (HeaderIsRight old new × CountsFlush padded new.output)
+        ⊎ (CountsFailedWrite padded new.output
+        ⊎ (CountsFailedFlush padded new.output ⊎ CountsFailedSeek padded new.output))
 
 -- the pad byte of a file whose header announced the bytes that were written
 abbrev pub stream_pad : {W : Type 0} → WavWriter W → List ℕ
 stream_pad file = if file.written == file.announced then pad file.written else []
+
+-- That pad byte was written after all earlier bytes, and then there was one flush, which may have
+-- failed. Or it is wanted, and the write failed.
+abbrev pub TriesToEndStream : {W : Type 0} → (W → Option (List ℕ)) → WavWriter W → WavWriter W
+    → Type 0
+TriesToEndStream {W} contents old new =
+    ((padded : CountingWriter W)
+    × Appends (output_contents contents old) (inner_contents contents padded) (stream_pad old)
+    × CountsNoFailure old.output padded × CountsFlush padded new.output)
+    ⊎ ((old.written ≡ old.announced) × CountsFailedWrite old.output new.output)
 
 -- An Ok wrote that pad byte after all earlier bytes, and nothing else.
 abbrev pub FinishStreamIsSound : {W : Type 0} → (W → Option (List ℕ)) → Result (Unit {0}) Error

@@ -4,11 +4,15 @@ ghost use Rattle.claxon.specs.FlacReader.{flac_metadata_only};
 ghost use Rattle.claxon.specs.FrameReader.{stream_with};
 ghost use Rattle.claxon.specs.State.{bytes_in};
 ghost use Rattle.claxon_wav.specs.Convert.{
+  ConvertFaultEnds,
+  ConvertFaultFinishes,
   ConvertFaultIsComplete,
   ConvertFaultIsSound,
   ConvertIsComplete,
+  ConvertOutOfMemoryForLargerBlock,
   ConvertToStreamIsSound,
   IsSound,
+  PutOutOfMemoryForLargerBlock,
   PutBlocksFaultIsSound,
   PutBlocksIsSound,
 };
@@ -28,8 +32,8 @@ use claxon_md5::Md5;
 use std::alloc::{Allocator, Global};
 use std::io::{Read, Seek, Write};
 
-/// Writes all samples of the stream, and finishes the file. After an error the samples before it are in a valid file too. The
-/// samples are hashed too, as the MD5 sum of a stream has them, if there is a hasher.
+/// Writes all samples of the stream, and finishes the file. After an error of the input the samples before it are in a valid file
+/// too, unless a call of the output fails. The samples are hashed too, as the MD5 sum of a stream has them, if there is a hasher.
 ///
 /// # Errors
 ///
@@ -50,6 +54,10 @@ pub fn convert<R: Read + Drop, W: Write + Seek, E: Write>(
     ensures is_complete { ConvertIsComplete R.remaining result flac.old flac.new wav.old wav.new }
     ensures fault_is_complete { ConvertFaultIsComplete R.remaining result flac.old flac.new wav.old
         wav.new }
+    ensures fault_finishes { ConvertFaultFinishes R.remaining result flac.old flac.new wav.old
+        wav.new W.contents }
+    ensures out_of_memory_for_larger_block { ConvertOutOfMemoryForLargerBlock R.remaining result
+        flac.old flac.new wav.old wav.new }
     ensures same_errors { SameErrors progress.old progress.new }
     ensures stays_quiet { StaysQuiet progress.old progress.new }
 {
@@ -60,8 +68,8 @@ pub fn convert<R: Read + Drop, W: Write + Seek, E: Write>(
     finished
 }
 
-/// Writes all samples of the stream to an output that can't seek, after a header that stays as it is. After an error the
-/// samples before it are written too. The samples are hashed as by `convert`.
+/// Writes all samples of the stream to an output that can't seek, after a header that stays as it is. After an error of the input
+/// the samples before it are written too, and the end of the file. The samples are hashed as by `convert`.
 ///
 /// # Errors
 ///
@@ -82,6 +90,10 @@ pub fn convert_to_stream<R: Read + Drop, W: Write, E: Write>(
     ensures is_complete { ConvertIsComplete R.remaining result flac.old flac.new wav.old wav.new }
     ensures fault_is_complete { ConvertFaultIsComplete R.remaining result flac.old flac.new wav.old
         wav.new }
+    ensures fault_ends { ConvertFaultEnds R.remaining result flac.old flac.new wav.old wav.new
+        W.contents }
+    ensures out_of_memory_for_larger_block { ConvertOutOfMemoryForLargerBlock R.remaining result
+        flac.old flac.new wav.old wav.new }
     ensures same_errors { SameErrors progress.old progress.new }
     ensures stays_quiet { StaysQuiet progress.old progress.new }
 {
@@ -110,6 +122,8 @@ fn put_blocks<R: ReadBytes, W: Write, E: Write>(
         info.bits_per_sample md5.old md5.new }
     ensures fault_is_sound { PutBlocksFaultIsSound W.contents (Some (stream_with info)) result
         (bytes_in R.source input.old) (bytes_in R.source input.new) wav.old wav.new }
+    ensures out_of_memory_for_larger_block { PutOutOfMemoryForLargerBlock (Some (stream_with info))
+        result (bytes_in R.source input.old) (bytes_in R.source input.new) }
     ensures same_errors { SameErrors progress.old progress.new }
     ensures stays_quiet { StaysQuiet progress.old progress.new }
 {

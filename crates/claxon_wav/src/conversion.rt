@@ -1,11 +1,20 @@
 //! A whole stream, converted.
-ghost use Rattle.std.specs.Prelude.{◌≡◌, [], false};
+ghost use Rattle.std.specs.Prelude.{◌≡◌, ◌≤◌, [], OnOk, false};
+ghost use Rattle.std.specs.Option.{ForSome};
 ghost use Rattle.claxon.specs.FlacReader.{flac_metadata_only};
 ghost use Rattle.claxon_blocks.specs.Md5Verdict.{HasHashedBytes};
-ghost use Rattle.claxon_wav.specs.Conversion.{VerdictIsSound, plan_computes_md5};
+ghost use Rattle.claxon_wav.specs.Conversion.{
+  ConversionIsSound,
+  WritesFile,
+  WritesStream,
+  plan_computes_md5,
+};
+ghost use Rattle.claxon_wav.specs.DataSize.{max_data_size};
+ghost use Rattle.claxon_wav.specs.Writer.{BeginsAs, SameOutput};
 
 use crate::blocks::{convert, convert_to_stream};
 use crate::error::Result;
+use crate::header::MAX_HEADER_SIZE;
 use crate::plan::Plan;
 use crate::writer::WavWriter;
 use claxon::FlacReader;
@@ -28,23 +37,28 @@ pub struct Conversion {
 /// # Errors
 ///
 /// Those of `convert`, and of a write of the header.
-pub fn write_file<R: Read + Drop, W: Write + Seek + Drop, E: Write>(
+pub fn write_file<R: Read + Drop, W: Write + Seek, E: Write>(
     alloc: Global,
     flac: &mut FlacReader<R>,
-    mut file: W,
+    file: &mut W,
     plan: Plan,
     progress: &mut Progress<'_, '_, E>,
 ) -> Result<Conversion>
     requires reads_frames { flac_metadata_only flac.old ≡ false }
-    ensures verdict_is_sound { VerdictIsSound (plan_computes_md5 plan) R.remaining flac.old result }
+    ensures is_sound { ConversionIsSound (plan_computes_md5 plan) R.remaining flac.old result }
+    ensures writes_file { WritesFile plan W.contents W.stream_position R.remaining flac.old result
+        file.old file.new }
 {
     let info = flac.streaminfo();
     let mut md5 = new_hasher(plan.computes_md5);
-    let announced = plan.announced.unwrap_or(0);
-    let mut wav = WavWriter::start(alloc, &mut file, plan.layout, announced)?;
+    let header = Vec::with_capacity(alloc, MAX_HEADER_SIZE)?;
+    let mut wav = WavWriter::new(alloc, header, file, plan.layout);
+    wav.start(plan.announced.unwrap_or(0))?;
     convert(alloc, flac, &mut wav, &mut md5, progress)?;
+    let samples = wav.samples();
+    let _ = wav.into_output();
     Ok(Conversion {
-        samples: wav.samples(),
+        samples,
         md5: judge_md5(&info, md5),
     })
 }
@@ -54,27 +68,42 @@ pub fn write_file<R: Read + Drop, W: Write + Seek + Drop, E: Write>(
 /// # Errors
 ///
 /// Those of `convert_to_stream`, and of a write of the header.
-pub fn write_stream<R: Read + Drop, W: Write + Drop, E: Write>(
+pub fn write_stream<R: Read + Drop, W: Write, E: Write>(
     alloc: Global,
     flac: &mut FlacReader<R>,
-    mut output: W,
+    output: &mut W,
     plan: Plan,
     progress: &mut Progress<'_, '_, E>,
 ) -> Result<Conversion>
     requires reads_frames { flac_metadata_only flac.old ≡ false }
-    ensures verdict_is_sound { VerdictIsSound (plan_computes_md5 plan) R.remaining flac.old result }
+    ensures is_sound { ConversionIsSound (plan_computes_md5 plan) R.remaining flac.old result }
+    ensures writes_stream { WritesStream plan R.remaining flac.old result (W.contents output.old)
+        (W.contents output.new) }
 {
     let info = flac.streaminfo();
     let mut md5 = new_hasher(plan.computes_md5);
-    let mut wav = match plan.announced {
-        Some(size) => WavWriter::start(alloc, &mut output, plan.layout, size)?,
-        None => WavWriter::start_unknown(alloc, &mut output, plan.layout)?,
-    };
+    let header = Vec::with_capacity(alloc, MAX_HEADER_SIZE)?;
+    let mut wav = WavWriter::new(alloc, header, output, plan.layout);
+    start_planned(&mut wav, plan.announced)?;
     convert_to_stream(alloc, flac, &mut wav, &mut md5, progress)?;
+    let written = wav.samples();
+    let _ = wav.into_output();
     Ok(Conversion {
-        samples: wav.samples(),
+        samples: written,
         md5: judge_md5(&info, md5),
     })
+}
+
+// Writes the header that announces this number of bytes of samples, or that for an unknown one.
+fn start_planned<W: Write>(wav: &mut WavWriter<'_, W>, announced: Option<u32>) -> Result<()>
+    requires fits { ForSome announced (λ n. n ≤ max_data_size) }
+    ensures same_output { SameOutput wav.old wav.new }
+    ensures is_sound { OnOk result (BeginsAs W.contents announced wav.old wav.new) }
+{
+    match announced {
+        Some(size) => wav.start(size),
+        None => wav.start_unknown(),
+    }
 }
 
 // A hasher of no samples, if the MD5 sum is computed.

@@ -1,5 +1,20 @@
 //! The header of a WAV file: all that precedes the samples.
-ghost use Rattle.std.specs.Prelude.{◌≡◌, ◌≤◌, ◌*◌, ◌++◌, ◌%◌, ◌==◌, ◌||◌, OnOk, length};
+ghost use Rattle.std.specs.Prelude.{
+  ◌≡◌,
+  ◌≤◌,
+  ◌<◌,
+  ◌+◌,
+  ◌*◌,
+  ◌++◌,
+  ◌%◌,
+  ◌==◌,
+  ◌||◌,
+  OnErr,
+  OnOk,
+  length,
+  vec_capacity,
+  vec_len,
+};
 ghost use Rattle.claxon_wav.specs.ChannelMask.{default_channel_mask};
 
 use std::alloc::AllocError;
@@ -7,6 +22,9 @@ use std::alloc::AllocError;
 /// The most bytes of samples that a file can hold: the size of all that follows its first eight bytes, which is up to sixty
 /// bytes and a pad byte more, has 32 bits.
 pub const MAX_DATA_SIZE: u32 = 4_294_967_234;
+
+/// The most bytes of a header.
+pub const MAX_HEADER_SIZE: usize = 68;
 
 // The GUID of the PCM subformat.
 const PCM_SUBFORMAT: [u8; 16] = [1, 0, 0, 0, 0, 0, 16, 0, 128, 0, 0, 170, 0, 56, 155, 113];
@@ -25,8 +43,9 @@ pub struct Layout {
 }
 
 impl Layout {
-    ghost use Rattle.claxon_wav.specs.DataSize.{max_data_size};
+    ghost use Rattle.claxon_wav.specs.DataSize.{max_data_size, max_header_size};
     ghost use Rattle.claxon_wav.specs.WaveFile.{
+      FailsAtCapacity,
       IsLayoutOf,
       IsSizeOf,
       PutHeaderIsSound,
@@ -129,9 +148,15 @@ impl Layout {
     }
 
     /// Replaces the bytes by the header for `size` bytes of samples.
+    ///
+    /// # Errors
+    ///
+    /// `AllocError` if memory is refused. With capacity for `MAX_HEADER_SIZE` bytes none is asked for.
     pub fn put_header(&self, size: u32, bytes: &mut Vec<u8>) -> Result<(), AllocError>
         requires { size ≤ max_data_size }
         ensures is_sound { PutHeaderIsSound self.now size result bytes.new.items }
+        ensures keeps_capacity { vec_capacity bytes.old ≤ vec_capacity bytes.new }
+        ensures fails_at_capacity { FailsAtCapacity (vec_capacity bytes.old) result }
     {
         let format_size = self.format_size();
         self.put_sizes(20 + format_size + size + size % 2, size, bytes)
@@ -139,14 +164,19 @@ impl Layout {
 
     /// Replaces the bytes by the header for samples of unknown number, up to the end of the file: both sizes are 0xFFFFFFFF.
     pub fn put_unknown_header(&self, bytes: &mut Vec<u8>) -> Result<(), AllocError>
-        ensures { OnOk result (bytes.new.items ≡ unknown_header self.now) }
+        ensures is_sound { OnOk result (bytes.new.items ≡ unknown_header self.now) }
+        ensures keeps_capacity { vec_capacity bytes.old ≤ vec_capacity bytes.new }
+        ensures fails_at_capacity { FailsAtCapacity (vec_capacity bytes.old) result }
     {
         self.put_sizes(u32::MAX, u32::MAX, bytes)
     }
 
     // Replaces the bytes by a header with these sizes, of all that follows the first one and of the samples.
     fn put_sizes(&self, all: u32, size: u32, bytes: &mut Vec<u8>) -> Result<(), AllocError>
-        ensures { OnOk result (bytes.new.items ≡ header_bytes (format self.now) all size) }
+        ensures is_sound { OnOk result
+            (bytes.new.items ≡ header_bytes (format self.now) all size) }
+        ensures keeps_capacity { vec_capacity bytes.old ≤ vec_capacity bytes.new }
+        ensures full { OnErr result (vec_capacity bytes.old < max_header_size) }
     {
         bytes.clear();
         bytes.extend_from_slice(b"RIFF")?;
@@ -168,7 +198,10 @@ impl Layout {
     }
 
     fn put_format(&self, bytes: &mut Vec<u8>) -> Result<(), AllocError>
-        ensures { OnOk result (bytes.new.items ≡ bytes.old.items ++ format self.now) }
+        ensures is_sound { OnOk result (bytes.new.items ≡ bytes.old.items ++ format self.now) }
+        ensures len { OnOk result (vec_len bytes.new ≤ vec_len bytes.old + 40) }
+        ensures keeps_capacity { vec_capacity bytes.old ≤ vec_capacity bytes.new }
+        ensures full { OnErr result (vec_capacity bytes.old < vec_len bytes.old + 40) }
     {
         if !self.is_extensible() {
             self.put_base_format(1, bytes)?;
@@ -180,7 +213,11 @@ impl Layout {
     }
 
     fn put_base_format(&self, code: u16, bytes: &mut Vec<u8>) -> Result<(), AllocError>
-        ensures { OnOk result (bytes.new.items ≡ bytes.old.items ++ base_format code self.now) }
+        ensures is_sound { OnOk result
+            (bytes.new.items ≡ bytes.old.items ++ base_format code self.now) }
+        ensures len { OnOk result (vec_len bytes.new ≡ vec_len bytes.old + 16) }
+        ensures keeps_capacity { vec_capacity bytes.old ≤ vec_capacity bytes.new }
+        ensures full { OnErr result (vec_capacity bytes.old < vec_len bytes.old + 16) }
     {
         let block_align = self.block_align();
         let bytes_per_second = self.sample_rate.wrapping_mul(block_align);
@@ -195,7 +232,10 @@ impl Layout {
 
     // The extension: its size, valid bits per sample, channel mask, subformat.
     fn put_extension(&self, bytes: &mut Vec<u8>) -> Result<(), AllocError>
-        ensures { OnOk result (bytes.new.items ≡ bytes.old.items ++ extension self.now) }
+        ensures is_sound { OnOk result (bytes.new.items ≡ bytes.old.items ++ extension self.now) }
+        ensures len { OnOk result (vec_len bytes.new ≡ vec_len bytes.old + 24) }
+        ensures keeps_capacity { vec_capacity bytes.old ≤ vec_capacity bytes.new }
+        ensures full { OnErr result (vec_capacity bytes.old < vec_len bytes.old + 24) }
     {
         bytes.extend_from_slice(&22u16.to_le_bytes())?;
         bytes.extend_from_slice(&(self.valid_bits as u16).to_le_bytes())?;

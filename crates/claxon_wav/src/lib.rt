@@ -12,6 +12,6 @@ mod writer;
 pub use blocks::{convert, convert_to_stream};
 pub use conversion::{Conversion, write_file, write_stream};
 pub use error::{Error, Result};
-pub use header::{Layout, MAX_DATA_SIZE};
+pub use header::{Layout, MAX_DATA_SIZE, MAX_HEADER_SIZE};
 pub use plan::Plan;
 pub use writer::WavWriter;

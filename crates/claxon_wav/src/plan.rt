@@ -1,7 +1,9 @@
 //! How a stream is converted.
 ghost use Rattle.std.specs.Prelude.{◌≤◌, IfOk, IfSome};
 ghost use Rattle.std.specs.Option.{ForSome};
+ghost use Rattle.claxon.specs.FlacReader.{tags_of};
 ghost use Rattle.claxon_wav.specs.AnnouncedSize.{IsAnnounced};
+ghost use Rattle.claxon_wav.specs.ChannelMask.{IsMaskOf, IsMaskOfTags, mask_values};
 ghost use Rattle.claxon_wav.specs.DataSize.{max_data_size};
 
 use crate::error::{Error, Result};
@@ -21,8 +23,7 @@ pub struct Plan {
 }
 
 impl Plan {
-    ghost use Rattle.std.specs.Prelude.{◌≡◌};
-    ghost use Rattle.claxon_wav.specs.Conversion.{plan_computes_md5};
+    ghost use Rattle.claxon_wav.specs.Plan.{PlanFaultIsSound, PlanIsSound};
 
     /// With the layout and the number of samples that the head of the stream gives.
     ///
@@ -30,7 +31,8 @@ impl Plan {
     ///
     /// `TooLong` if a WAV file can't hold as many samples.
     pub fn of_stream<R: Read>(flac: &FlacReader<R>, computes_md5: bool) -> Result<Plan>
-        ensures { IfOk result (λ plan. plan_computes_md5 plan ≡ computes_md5) }
+        ensures is_sound { PlanIsSound flac.now computes_md5 result }
+        ensures fault_is_sound { PlanFaultIsSound flac.now result }
     {
         let info = flac.streaminfo();
         let (channels, bits) = (info.channels, info.bits_per_sample);
@@ -59,8 +61,17 @@ fn announced_size(layout: &Layout, info: &StreamInfo) -> Result<Option<u32>>
 }
 
 // The channel mask in a tag, as an encoder writes it for a WAV file with other channels than the default ones.
-fn channel_mask<R: Read>(flac: &FlacReader<R>) -> Option<u32> {
+fn channel_mask<R: Read>(flac: &FlacReader<R>) -> Option<u32>
+    ensures { IsMaskOfTags (mask_values (tags_of flac.now)) result }
+{
     let value = flac.get_tag("WAVEFORMATEXTENSIBLE_CHANNEL_MASK").next()?;
+    mask_of(value)
+}
+
+// The channel mask that a value of the tag names.
+fn mask_of(value: &str) -> Option<u32>
+    ensures { IsMaskOf value.now result }
+{
     let channel_mask = u32::from_str_radix(value.strip_prefix("0x")?, 16).ok()?;
     if channel_mask == 0 {
         return None;

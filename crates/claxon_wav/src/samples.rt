@@ -1,11 +1,23 @@
 //! The samples of a block as the bytes of a WAV file.
-ghost use Rattle.std.specs.Prelude.{◌≡◌, ◌≤◌, ◌*◌, ◌<◌, All, IfErr, OnOk, false, length, true};
+ghost use Rattle.std.specs.Prelude.{
+  ◌≡◌,
+  ◌≤◌,
+  ◌*◌,
+  ◌<◌,
+  All,
+  IfErr,
+  OnOk,
+  length,
+  vec_capacity,
+};
 ghost use Rattle.std.specs.Int.{to_le_bytes, w32};
 ghost use Rattle.std.specs.List.{flat_map};
 ghost use Rattle.claxon.specs.Bits.{FitsIn};
 ghost use Rattle.claxon.specs.Streams.{interleave};
 ghost use Rattle.claxon_wav.specs.Samples.{
   IsTooWide,
+  PackHasMemory,
+  PackTakesRoom,
   packed_block,
   bytes_of_sample,
   shifted_sample,
@@ -16,6 +28,7 @@ ghost use Rattle.claxon_wav.specs.WaveFile.{sample_size};
 use crate::error::{Error, Result};
 use claxon::Block;
 use claxon::interleave::interleave;
+use claxon_blocks::fit::all_fit;
 use std::alloc::Allocator;
 
 /// Replaces the bytes by those of a block's samples. A sample that doesn't fit in the valid bits is an error. The contents of
@@ -32,6 +45,12 @@ pub fn pack<A: Allocator>(
     ensures fits { OnOk result (All (FitsIn valid_bits) (interleave block.now.channels)) }
     ensures wide { IfErr result (λ error.
         IsTooWide valid_bits error (interleave block.now.channels)) }
+    ensures has_memory { PackHasMemory valid_bits block.now result
+        (vec_capacity interleaved.old) (vec_capacity bytes.old) }
+    ensures takes_room { PackTakesRoom valid_bits block.now result
+        (vec_capacity interleaved.new) (vec_capacity bytes.new) }
+    ensures keeps_interleaved { vec_capacity interleaved.old ≤ vec_capacity interleaved.new }
+    ensures keeps_bytes { vec_capacity bytes.old ≤ vec_capacity bytes.new }
 {
     interleaved.resize(block.len() as usize, 0)?;
     interleave(
@@ -40,7 +59,7 @@ pub fn pack<A: Allocator>(
         block.duration() as usize,
         interleaved.as_mut_slice(),
     );
-    if !all_fit_in(interleaved.as_slice(), valid_bits) {
+    if !all_fit(interleaved.as_slice(), valid_bits) {
         return Err(Error::WideSample);
     }
     bytes.resize(interleaved.len() * valid_bits.div_ceil(8) as usize, 0)?;
@@ -52,32 +71,6 @@ pub fn pack<A: Allocator>(
         _ => put_samples::<4>(samples, valid_bits, buffer),
     }
     Ok(())
-}
-
-// Whether each sample fits in this number of bits in two's complement.
-#[inline(never)]
-fn all_fit_in(samples: &[i32], valid_bits: u32) -> bool
-    requires some_bits { 1 ≤ valid_bits }
-    requires few_bits { valid_bits ≤ 32 }
-    ensures yes { result ≡ true → All (FitsIn valid_bits) samples.now }
-    ensures no { result ≡ false → All (FitsIn valid_bits) samples.now → ⊥ }
-{
-    let mut fit = true;
-    for i in 0..samples.len() {
-        fit = fit & fits_in(samples[i], valid_bits);
-    }
-    fit
-}
-
-fn fits_in(sample: i32, valid_bits: u32) -> bool
-    requires some_bits { 1 ≤ valid_bits }
-    requires few_bits { valid_bits ≤ 32 }
-    ensures yes { result ≡ true → FitsIn valid_bits sample }
-    ensures no { result ≡ false → FitsIn valid_bits sample → ⊥ }
-{
-    let size = sample.unsigned_abs();
-    let folded = if sample < 0 { size - 1 } else { size };
-    folded < 1 << (valid_bits - 1)
 }
 
 // Each sample in N bytes, with its valid bits the most significant ones.

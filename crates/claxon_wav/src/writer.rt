@@ -1,6 +1,6 @@
 //! Writing a WAV file.
-ghost use Rattle.std.specs.Prelude.{◌≡◌, ◌≤◌, IfErr};
-ghost use Rattle.claxon_wav.specs.DataSize.{max_data_size};
+ghost use Rattle.std.specs.Prelude.{◌≡◌, ◌≤◌, IfErr, vec_capacity};
+ghost use Rattle.claxon_wav.specs.DataSize.{max_data_size, max_header_size};
 
 use crate::error::{Error, Result, of_output};
 use crate::header::{Layout, MAX_DATA_SIZE};
@@ -24,6 +24,7 @@ pub struct WavWriter<'w, W> {
     bytes: Vec<u8>,
     ghost announced_fits: { announced ≤ max_data_size },
     ghost written_fits: { written ≤ max_data_size },
+    ghost header_has_room: { max_header_size ≤ vec_capacity header },
 }
 
 impl<'w, W: Write> WavWriter<'w, W> {
@@ -34,76 +35,96 @@ impl<'w, W: Write> WavWriter<'w, W> {
       FinishFaultIsSound,
       FinishFlushes,
       FinishStreamIsSound,
+      IsNewWriter,
+      IsOutputOf,
+      KeepsRoom,
       PadIsSound,
       PutBlockFaultIsSound,
       PutBlockFaultKeeps,
       PutBlockFits,
+      PutBlockHasMemory,
       PutBlockIsSound,
+      PutBlockTakesRoom,
       SameHeader,
       SameOutput,
       StartFaultIsSound,
       StartIsSound,
       StartUnknownIsSound,
+      TriesToEndStream,
       Unflushed,
       samples_written,
     };
 
-    /// Borrows the output, and writes a header that announces this number of bytes of samples. If there are others, `finish`
-    /// corrects it.
-    pub fn start(
+    /// Borrows the output, for a file of this layout. `header` is memory for the header, with capacity for `MAX_HEADER_SIZE`
+    /// bytes. `start` or `start_unknown` comes next.
+    pub fn new(
         alloc: Global,
-        output: &'w mut W,
-        layout: Layout,
-        announced: u32,
-    ) -> Result<WavWriter<'w, W>>
-        requires { announced ≤ max_data_size }
-        ensures is_sound { StartIsSound W.contents layout announced output.entry result }
-        ensures fault_is_sound { StartFaultIsSound result }
-    {
-        let mut header = Vec::new(alloc);
-        layout.put_header(announced, &mut header)?;
-        WavWriter::begin(alloc, output, layout, announced, header)
-    }
-
-    /// Borrows the output, and writes a header for samples of unknown number. It is never corrected: `finish_stream` ends the
-    /// file.
-    pub fn start_unknown(
-        alloc: Global,
-        output: &'w mut W,
-        layout: Layout,
-    ) -> Result<WavWriter<'w, W>>
-        ensures is_sound { StartUnknownIsSound W.contents layout output.entry result }
-        ensures fault_is_sound { StartFaultIsSound result }
-    {
-        let mut header = Vec::new(alloc);
-        layout.put_unknown_header(&mut header)?;
-        WavWriter::begin(alloc, output, layout, 0, header)
-    }
-
-    // Writes a header.
-    fn begin(
-        alloc: Global,
-        output: &'w mut W,
-        layout: Layout,
-        announced: u32,
         header: Vec<u8>,
-    ) -> Result<WavWriter<'w, W>>
-        requires { announced ≤ max_data_size }
-        ensures is_sound { BeginIsSound W.contents header.items layout announced output.entry
-            result }
-        ensures fault_is_sound { StartFaultIsSound result }
+        output: &'w mut W,
+        layout: Layout,
+    ) -> WavWriter<'w, W>
+        requires has_room { max_header_size ≤ vec_capacity header }
+        ensures is_new_writer { IsNewWriter layout output.entry result }
     {
-        let mut output = CountingWriter::new(output);
-        of_output(output.write_whole(header.as_slice()))?;
-        Ok(WavWriter {
-            output,
+        WavWriter {
+            output: CountingWriter::new(output),
             layout,
-            announced,
+            announced: 0,
             written: 0,
             header,
             interleaved: Vec::new(alloc),
             bytes: Vec::new(alloc),
-        })
+        }
+    }
+
+    /// Returns the output.
+    pub fn into_output(self) -> &'w mut W
+        ensures is_output_of { IsOutputOf self.entry result }
+    {
+        let WavWriter {
+            output,
+            layout: _,
+            announced: _,
+            written: _,
+            header: _,
+            interleaved: _,
+            bytes: _,
+        } = self;
+        output.into_inner()
+    }
+
+    /// Writes a header that announces this number of bytes of samples. If there are others, `finish` corrects it.
+    pub fn start(&mut self, announced: u32) -> Result<()>
+        requires { announced ≤ max_data_size }
+        ensures same_output { SameOutput self.old self.new }
+        ensures is_sound { StartIsSound W.contents announced result self.old self.new }
+        ensures fault_is_sound { StartFaultIsSound result self.old self.new }
+    {
+        self.layout.put_header(announced, &mut self.header)?;
+        self.begin(announced)
+    }
+
+    /// Writes a header for samples of unknown number. It is never corrected: `finish_stream` ends the file.
+    pub fn start_unknown(&mut self) -> Result<()>
+        ensures same_output { SameOutput self.old self.new }
+        ensures is_sound { StartUnknownIsSound W.contents result self.old self.new }
+        ensures fault_is_sound { StartFaultIsSound result self.old self.new }
+    {
+        self.layout.put_unknown_header(&mut self.header)?;
+        self.begin(0)
+    }
+
+    // Writes the header, which announces this number of bytes.
+    fn begin(&mut self, announced: u32) -> Result<()>
+        requires { announced ≤ max_data_size }
+        ensures same_output { SameOutput self.old self.new }
+        ensures is_sound { BeginIsSound W.contents self.old.header.items announced result self.old
+            self.new }
+        ensures fault_is_sound { StartFaultIsSound result self.old self.new }
+    {
+        self.announced = announced;
+        self.written = 0;
+        of_output(self.output.write_whole(self.header.as_slice()))
     }
 
     /// Writes the samples of a block.
@@ -111,7 +132,8 @@ impl<'w, W: Write> WavWriter<'w, W> {
     /// # Errors
     ///
     /// `OtherChannels`, `WideSample`, `TooLong` or `OutOfMemory`, and then nothing was written. `Output` if a write fails, and
-    /// then a prefix of the block's bytes was written. The samples of the block aren't counted.
+    /// then a prefix of the block's bytes was written. The samples of the block aren't counted. The memory for a block is kept:
+    /// one that is no larger takes no more.
     pub fn put_block<A: Allocator>(&mut self, block: &Block<A>) -> Result<()>
         ensures same_output { SameOutput self.old self.new }
         ensures is_sound { PutBlockIsSound W.contents block.now result self.old self.new }
@@ -120,6 +142,9 @@ impl<'w, W: Write> WavWriter<'w, W> {
         ensures fault_keeps { PutBlockFaultKeeps W.contents block.now result self.old self.new }
         ensures same_header { SameHeader self.old self.new }
         ensures unflushed { Unflushed self.old self.new }
+        ensures has_memory { PutBlockHasMemory block.now result self.old }
+        ensures keeps_room { KeepsRoom self.old self.new }
+        ensures takes_room { PutBlockTakesRoom block.now result self.new }
     {
         if block.channels() != self.layout.channels() {
             return Err(Error::OtherChannels);
@@ -152,6 +177,7 @@ impl<'w, W: Write> WavWriter<'w, W> {
         ensures fault_is_sound { FinishFaultIsSound result self.old self.new }
         ensures few_writes_failed { FewWritesFailed self.old self.new }
         ensures same_header { SameHeader self.old self.new }
+        ensures tries_to_end { TriesToEndStream W.contents self.old self.new }
     {
         if self.written == self.announced {
             self.pad()?;
@@ -183,17 +209,20 @@ impl<'w, W: Write + Seek> WavWriter<'w, W> {
       FinishFlushes,
       FinishIsSound,
       SameOutput,
+      TriesToEnd,
       UpdateFaultIsSound,
       UpdateHeaderIsSound,
     };
 
-    /// Finishes the file with the samples written so far. There is no seek if the header was right.
+    /// Finishes the file with the samples written so far. There is no seek if the header was right. After a failed write of the
+    /// pad byte the header is corrected too.
     pub fn finish(&mut self) -> Result<()>
         ensures same_output { SameOutput self.old self.new }
         ensures is_sound { FinishIsSound W.contents W.stream_position result self.old self.new }
         ensures flushes { FinishFlushes result self.old self.new }
         ensures fault_is_sound { FinishFaultIsSound result self.old self.new }
         ensures few_writes_failed { FewWritesFailed self.old self.new }
+        ensures tries_to_end { TriesToEnd W.contents self.old self.new }
     {
         let padded = self.pad();
         let updated = self.update_header();

@@ -2,6 +2,7 @@
 ghost use Rattle.claxon_commands.specs.VerifyOptions.{FilesAre, RequestIsSound};
 
 use claxon_command_line::arguments::{Argument, Arguments, Notice, Operands};
+use claxon_command_line::names::not_utf8_name;
 use claxon_verdict::print::PrintOptions;
 
 /// What a command line asks for.
@@ -44,6 +45,7 @@ pub fn parse<'a>(words: &'a [String]) -> Result<VerifyRequest<'a>, Notice<'a>>
             is_brief: false,
             is_json: false,
             is_quiet: false,
+            has_summary: false,
         },
         is_recursive: false,
     };
@@ -51,6 +53,7 @@ pub fn parse<'a>(words: &'a [String]) -> Result<VerifyRequest<'a>, Notice<'a>>
     while let Some(argument) = arguments.next() {
         match argument {
             Argument::Option("--files0-from") if list.is_none() => match arguments.value() {
+                Some(name) if not_utf8_name(name).is_some() => return Err(Notice::NotUtf8),
                 Some(name) => list = Some(name),
                 None => return Err(Notice::Usage),
             },
@@ -70,6 +73,7 @@ fn with_option<'a>(options: Options, option: &'a str) -> Result<Options, Notice<
         "--no-md5" => options.computes_md5 = false,
         "--brief" => options.print.is_brief = true,
         "--json" => options.print.is_json = true,
+        "--summary" => options.print.has_summary = true,
         "-q" | "--quiet" => options.print.is_quiet = true,
         "-r" | "--recursive" => options.is_recursive = true,
         _ => return Err(Notice::of_option(option)),

@@ -1,5 +1,4 @@
 //! Bits, bytes and CRCs of known bytes.
-use crate::input::crc_pair::read_pair_with_crc;
 use claxon::crc::{Crc8Reader, Crc16Reader};
 use claxon::input::{Bitstream, BufferedReader, ReadBytes};
 use std::io;
@@ -225,13 +224,5 @@ fn crcs_of_long_slices(rt: HostRuntime) -> Result<(), Fail> {
         let mut reader = Cursor::new(bytes);
         assert!(rt; crc16_of(&mut reader, count, &mut [])? == crc16, "{count}");
     }
-    Ok(())
-}
-
-#[test]
-fn a_pair_with_crc(rt: HostRuntime) -> Result<(), Fail> {
-    let mut reader = Cursor::new([0xacu8, 0x04, 0x68, 0x11, 0xac, 0x04, 0x68, 0x10]);
-    assert!(rt; read_pair_with_crc(&mut reader).ok() == Some((21, 257)));
-    assert!(rt; read_pair_with_crc(&mut reader).is_err());
     Ok(())
 }

@@ -1,15 +1,17 @@
 //! The lines about files.
 use super::{damage_text, head_text, left_out_line, place_line, trailing_text, verdict_text};
-use crate::reports::{more_places, one_place, other_sum, right, short, unusual, wide};
+use crate::reports::{
+    more_places, one_place, other_sum, right, short, unusual, wide, without_separator,
+};
 use crate::verdict::Verdict;
 use claxon::Error;
 use claxon_verify::report::{Damage, Gap, Report, Trailing};
 use std::alloc::{AllocError, Global};
 use std::test::Fail;
 
-fn said(alloc: Global, report: Report) -> Result<String, AllocError> {
+fn said(alloc: Global, report: Report, is_brief: bool) -> Result<String, AllocError> {
     let verdict = Verdict::of_report(&report);
-    verdict_text(alloc, &report, verdict)
+    verdict_text(alloc, &report, verdict, is_brief)
 }
 
 #[test]
@@ -19,10 +21,10 @@ fn right_files(rt: HostRuntime) -> Result<(), Fail> {
         (right(alloc), "ok, 300 frames, 1228800 samples"),
         (
             unusual(alloc),
-            "ok, 300 frames, 1228800 samples, no MD5 sum, unknown length, a block size is out of the streaminfo's bounds, a frame size is out of the streaminfo's bounds, 1 byte after the last frame",
+            "ok, 300 frames, 1228800 samples, no MD5 sum, unknown length, a block size is out of the streaminfo's bounds, a frame size is out of the streaminfo's bounds, 1 byte after the last frame, the fixed block size changes from 4096 to 1024",
         ),
     ] {
-        let got = said(alloc, report)?;
+        let got = said(alloc, report, false)?;
         assert!(rt; got.as_str() == want, "{want}");
     }
     Ok(())
@@ -31,26 +33,50 @@ fn right_files(rt: HostRuntime) -> Result<(), Fail> {
 #[test]
 fn wrong_files(rt: HostRuntime) -> Result<(), Fail> {
     let alloc = rt.alloc();
-    for (report, want) in [
+    for (report, is_brief, want) in [
         (
             other_sum(alloc),
+            false,
             "wrong, 300 frames, 1228800 samples, but their MD5 sum isn't that of the streaminfo",
         ),
         (
             short(alloc),
+            true,
             "wrong, 299 frames, 1224704 samples, but the streaminfo says 1228800",
         ),
         (
             one_place(alloc),
+            false,
+            "wrong, 299 frames, 1224704 samples, but the streaminfo says 1228800, 1 place",
+        ),
+        (
+            one_place(alloc),
+            true,
             "wrong, 299 frames, 1224704 samples, but the streaminfo says 1228800, 1 place at byte 53 after 4096 samples: Ill-formed FLAC stream: frame CRC mismatch",
         ),
         (
             more_places(alloc, None, 5)?,
+            false,
+            "wrong, 299 frames, 1224704 samples, but the streaminfo says 1228800, 8 places",
+        ),
+        (
+            more_places(alloc, None, 5)?,
+            true,
             "wrong, 299 frames, 1224704 samples, but the streaminfo says 1228800, 8 places, the first at byte 53 after 4096 samples: Ill-formed FLAC stream: frame CRC mismatch",
         ),
-        (wide(alloc), "not supported, 32-bit samples"),
+        (wide(alloc), false, "not supported, 32-bit samples"),
+        (
+            without_separator(alloc, false),
+            false,
+            "not supported, a tag without '='",
+        ),
+        (
+            without_separator(alloc, true),
+            true,
+            "wrong, 299 frames, 1224704 samples, but the streaminfo says 1228800, not supported: a tag without '=', 1 place at byte 53 after 4096 samples: Ill-formed FLAC stream: frame CRC mismatch",
+        ),
     ] {
-        let got = said(alloc, report)?;
+        let got = said(alloc, report, is_brief)?;
         assert!(rt; got.as_str() == want, "{want}");
     }
     Ok(())
@@ -127,6 +153,10 @@ fn damages(rt: HostRuntime) -> Result<(), Fail> {
             }),
             "1 sample is repeated",
         ),
+        (
+            Damage::WideSample,
+            "a sample has more bits than the streaminfo says",
+        ),
     ] {
         let got = damage_text(alloc, &info, &damage)?;
         assert!(rt; got.as_str() == want, "{got}");
@@ -178,7 +208,11 @@ fn heads(rt: HostRuntime) -> Result<(), Fail> {
         ),
         (
             Error::FormatError("invalid stream header"),
-            Some("wrong, Ill-formed FLAC stream: invalid stream header"),
+            Some("wrong, not a FLAC file"),
+        ),
+        (
+            Error::FormatError("invalid streaminfo metadata block length"),
+            Some("wrong, Ill-formed FLAC stream: invalid streaminfo metadata block length"),
         ),
         (Error::OutOfMemory, None),
     ] {

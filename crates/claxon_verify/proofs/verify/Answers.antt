@@ -11,3 +11,6 @@ returns-clause-head_fault_is_complete g c = c.verify_exact.ensures.promises.name
 
 pub returns-clause-out_of_memory_after_header : goal.returns-clause-out_of_memory_after_header
 returns-clause-out_of_memory_after_header g c = c.verify_exact.ensures.promises.memory
+
+pub returns-clause-places_are_counted : goal.returns-clause-places_are_counted
+returns-clause-places_are_counted g c = c.verify_exact.ensures.places_are_counted

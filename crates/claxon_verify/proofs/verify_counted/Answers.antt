@@ -1,9 +1,9 @@
-use Rattle.std.proofs.Common.{sym, inl, inr, ◌+◌, ◌%◌, ◌^◌, ℕ, ap, length, refl, ◌∙◌, zero-add}
+use Rattle.std.proofs.Common.{inl, inr, ap, refl, sym, ◌∙◌}
 use Rattle.std.proofs.lemmas.Result.{err_from_is_err_and}
 use Rattle.claxon.specs.StreamInfos.{StreamInfo}
 use Rattle.claxon_verify.specs.Verify.{counted_bytes, position_of}
-use Rattle.claxon_verify.proofs.Walking.{position_modulo}
-use Rattle.claxon_verify.proofs.Verified.{all_counted, head_consumed, no_head, not_counted}
+use Rattle.claxon_verify.proofs.Walking.{front_from_start}
+use Rattle.claxon_verify.proofs.Verified.{all_counted, counted_places, head_consumed, no_head, not_counted}
 use Rattle.claxon_command_line.proofs.Showing.{started_quietly}
 use Rattle.claxon_verify.proofs.verify_counted.Goals as goal
 
@@ -14,12 +14,22 @@ returns-clause-promises g c =
     let a = counted_bytes source c.args.input.now in
     let m = counted_bytes source c.read_head.new.input in
     let b = counted_bytes source c.walk_frames.new.input in
-    let h = head_consumed a m (c.in_ok-info.info, c.in_ok-info._comment) (position_of c.read_head.new.input) e.is_sound e.is_complete e.fault_is_complete e.is_read e.has_bounds (λ known after crcs front is. position_modulo source c.args.input.now c.read_head.new.input known after crcs front is ∙ ap (λ (n : ℕ). n % 2 ^ 64) (ap (λ (n : ℕ). n + length front) c.requires ∙ zero-add (length front))) in
+    let h = head_consumed a m (c.in_ok-info.info, c.in_ok-info.unsupported) (position_of c.read_head.new.input) e.gives e.has_bounds (front_from_start source c.args.input.now c.read_head.new.input c.requires e.gives) in
     let r = c.report_of.ensures in
-    all_counted b h c.args.computes_md5 c.in_ok-info.info c.in_ok-walk.walk c.report_of.result refl c.in_ok-walk.ensures.ok r.info r.frames r.samples r.first r.md5_is_judged r.is_right
+    all_counted b h c.args.computes_md5 c.in_ok-info.info c.in_ok-walk.walk c.report_of.result refl r.unsupported c.in_ok-walk.ensures.ok r.info r.frames r.samples r.first r.sizes r.md5_is_judged r.md5_is_shown c.in_ok-info.unsupported r.unsupported r.is_right
+
+pub returns-clause-places_are_counted : goal.returns-clause-places_are_counted
+returns-clause-places_are_counted g c =
+    let e = c.in_ok-info.ensures in
+    let source = g.R.ReadBytes.source in
+    let a = counted_bytes source c.args.input.now in
+    let m = counted_bytes source c.read_head.new.input in
+    let b = counted_bytes source c.walk_frames.new.input in
+    let h = head_consumed a m (c.in_ok-info.info, c.in_ok-info.unsupported) (position_of c.read_head.new.input) e.gives e.has_bounds (front_from_start source c.args.input.now c.read_head.new.input c.requires e.gives) in
+    counted_places b h c.in_ok-walk.walk c.report_of.result c.in_ok-walk.ensures.places c.report_of.ensures.count
 
 pub returns-clause-loans : goal.returns-clause-loans
-returns-clause-loans g c = c.in_ok-walk.ensures.loans ∙ c.in_ok-info.ensures.is_read.loans
+returns-clause-loans g c = c.in_ok-walk.ensures.loans ∙ c.in_ok-info.ensures.gives.loans
 
 pub returns-clause-is_quiet : goal.returns-clause-is_quiet
 returns-clause-is_quiet g c is =
@@ -30,7 +40,7 @@ pub returns-in_err-info-clause-promises : goal.returns-in_err-info-clause-promis
 returns-in_err-info-clause-promises g c =
     let e = c.in_err-info.ensures in
     let p = err_from_is_err_and c.from_residual.result c.from_residual.ensures.1 in
-    rw (p.1, p.2) (no_head _ _ c.args.computes_md5 c.in_err-info.field-0.0 e.is_complete e.fault_is_sound e.fault_is_complete e.out_of_memory_after_header)
+    rw (p.1, p.2) (no_head _ _ c.args.computes_md5 c.in_err-info.field-0.0 e.gives e.out_of_memory)
 
 pub returns-in_err-walk-clause-promises : goal.returns-in_err-walk-clause-promises
 returns-in_err-walk-clause-promises g c =
@@ -39,6 +49,6 @@ returns-in_err-walk-clause-promises g c =
     let a = counted_bytes source c.args.input.now in
     let m = counted_bytes source c.read_head.new.input in
     let b = counted_bytes source c.walk_frames.new.input in
-    let h = head_consumed a m (c.in_ok-info.info, c.in_ok-info._comment) (position_of c.read_head.new.input) e.is_sound e.is_complete e.fault_is_complete e.is_read e.has_bounds (λ known after crcs front is. position_modulo source c.args.input.now c.read_head.new.input known after crcs front is ∙ ap (λ (n : ℕ). n % 2 ^ 64) (ap (λ (n : ℕ). n + length front) c.requires ∙ zero-add (length front))) in
+    let h = head_consumed a m (c.in_ok-info.info, c.in_ok-info.unsupported) (position_of c.read_head.new.input) e.gives e.has_bounds (front_from_start source c.args.input.now c.read_head.new.input c.requires e.gives) in
     let p = err_from_is_err_and c.from_residual-in_err-walk.result c.from_residual-in_err-walk.ensures.1 in
     rw (p.1, p.2) (not_counted b h c.args.computes_md5 c.in_err-walk.field-0.0 c.in_err-walk.ensures.err)

@@ -1,4 +1,4 @@
-use Rattle.std.proofs.Common.{Option, ap, refl, sym, ◌∙◌}
+use Rattle.std.proofs.Common.{◌+◌, ◌<◌, ◌^◌, Option, ap, arith, refl, sym, ◌∙◌}
 use Rattle.std.proofs.lemmas.Result.{err_from_is_err_and}
 use Rattle.std.specs.Prelude.{Ok, Some}
 use Rattle.claxon.specs.DecodedFrames.{DecodedFrame}
@@ -7,7 +7,7 @@ use Rattle.claxon_blocks.specs.Frames.{decoder_answer, frame_block}
 use Rattle.claxon_verify.specs.Verify.{counted_bytes}
 use Rattle.claxon_verify.specs.declared.BytesRead.{BytesRead}
 use Rattle.claxon_command_line.proofs.Showing.{shown_quietly, shown_total_same}
-use Rattle.claxon_verify.proofs.Walking.{cut_found, eof_found, fault_added, frame_added, frame_as, frame_exceeds, none_so_far, position_after, read_as}
+use Rattle.claxon_verify.proofs.Walking.{cut_found, cut_places, eof_found, eof_places, fault_added, frame_added, frame_as, frame_exceeds, none_so_far, position_after, read_as}
 use Rattle.claxon_verify.proofs.walk_frames.Goals.{in-Ok-Some+in_ok-walk-in-Ok-Some, in-Err+in_ok-walk-in-Err+else-is_last}
 use Rattle.claxon_verify.proofs.walk_frames.Goals as goal
 
@@ -21,18 +21,21 @@ loop-preserved g c =
     let a = counted_bytes g.R.ReadBytes.source c.loop.input in
     let read = c.read_frame-read.ensures.is_read in
     let byte = ap (λ (p : BytesRead). p.bytes) c.value-start.ensures in
+    let end = ap (λ (p : BytesRead). p.bytes) c.value-end.ensures in
+    let bound : c.loop.counter + 1 < 2 ^ 64 = omega arith in
     record {
       so_far = elim c.match-read.branch [
         | in-Ok-Some+in_ok-walk-in-Ok-Some w ↦ (
             let found = w.in-Ok-Some.is ∙ ap (λ (z : Option (DecodedFrame _)). Ok z) w.in-Ok-Some.field-0-is in
             let is = ap (decoder_answer frame_block) found in
             let small = rw byte at w.with_frame.ensures.fits in
-            rw w.walk-is (frame_added h w.in-Ok-Some.frame _ b (λ known front e. byte ∙ position_after g.R.ReadBytes.source c.args.input.now c.loop.input known (h.known known) (h.crcs known) small front e) (read_as {b = b} is read) (frame_as (Some (stream_with c.args.info)) a b found c.read_frame-read.ensures.has_header) w.in_ok-walk-in-Ok-Some.ensures.ok)
+            rw w.walk-is (frame_added h w.in-Ok-Some.frame _ b bound (λ known front e. byte ∙ position_after g.R.ReadBytes.source c.args.input.now c.loop.input known (h.known known) (h.values known) small front e) (read_as {b = b} is read) (frame_as (Some (stream_with c.args.info)) a b found c.read_frame-read.ensures.has_header) w.in_ok-walk-in-Ok-Some.ensures.ok)
             )
         | in-Err+in_ok-walk-in-Err+else-is_last w ↦ (
             let k = w.in_ok-walk-in-Err.ensures.ok in
             let small = rw byte at w.with_fault.ensures.fits in
-            rw w.walk-is (fault_added h (λ known front e. byte ∙ position_after g.R.ReadBytes.source c.args.input.now c.loop.input known (h.known known) (h.crcs known) small front e) w.in-Err.fault b (read_as {b = b} (ap (decoder_answer frame_block) w.in-Err.is) read) w.in-Err.ensures.tells_of_32_bits (sym w.is_io_error-is_last.ensures ∙ w.if-is_last.false) k.0 k.1)
+            let small_end = rw end at w.with_fault.ensures.end_fits in
+            rw w.walk-is (fault_added h (λ known front e. byte ∙ position_after g.R.ReadBytes.source c.args.input.now c.loop.input known (h.known known) (h.values known) small front e) w.in-Err.fault b bound (λ known after values front e. end ∙ position_after g.R.ReadBytes.source c.args.input.now c.read_frame-read.new.input known after values small_end front e) (read_as {b = b} (ap (decoder_answer frame_block) w.in-Err.is) read) w.in-Err.ensures.tells_of_32_bits (sym w.is_io_error-is_last.ensures ∙ w.if-is_last.false) k.0 k.1)
             )
       ];
       quiet = elim c.match-read.branch [
@@ -65,5 +68,22 @@ returns-then-is_last-clause-ok g c =
     let b = counted_bytes g.R.ReadBytes.source c.read_frame-read.new.input in
     let byte = ap (λ (p : BytesRead). p.bytes) c.value-start.ensures in
     let small = rw byte at c.with_fault.ensures.fits in
-    cut_found h (λ known front e. byte ∙ position_after g.R.ReadBytes.source c.args.input.now c.loop.input known (h.known known) (h.crcs known) small front e) c.in-Err.fault b (read_as {b = b} (ap (decoder_answer frame_block) c.in-Err.is) c.read_frame-read.ensures.is_read) c.in-Err.ensures.tells_of_32_bits
+    cut_found h (λ known front e. byte ∙ position_after g.R.ReadBytes.source c.args.input.now c.loop.input known (h.known known) (h.values known) small front e) c.in-Err.fault b (read_as {b = b} (ap (decoder_answer frame_block) c.in-Err.is) c.read_frame-read.ensures.is_read) c.in-Err.ensures.tells_of_32_bits
+    (sym c.is_io_error-is_last.ensures ∙ c.if-is_last.true) c.in_ok-walk-in-Err.ensures.ok.1
+
+pub returns-in-Ok-None-clause-places : goal.returns-in-Ok-None-clause-places
+returns-in-Ok-None-clause-places g c =
+    let b = counted_bytes g.R.ReadBytes.source c.read_frame-read.new.input in
+    let bound : c.loop.counter + 1 < 2 ^ 64 = omega arith in
+    let is = ap (decoder_answer frame_block) (c.in-Ok-None.is ∙ ap (λ (z : Option (DecodedFrame _)). Ok z) c.in-Ok-None.field-0-is) in
+    eof_places c.loop.invariant.so_far b bound (read_as {b = b} is c.read_frame-read.ensures.is_read) c.at_end.ensures.ends_walk
+
+pub returns-then-is_last-clause-places : goal.returns-then-is_last-clause-places
+returns-then-is_last-clause-places g c =
+    let h = c.loop.invariant.so_far in
+    let b = counted_bytes g.R.ReadBytes.source c.read_frame-read.new.input in
+    let bound : c.loop.counter + 1 < 2 ^ 64 = omega arith in
+    let byte = ap (λ (p : BytesRead). p.bytes) c.value-start.ensures in
+    let small = rw byte at c.with_fault.ensures.fits in
+    cut_places h (λ known front e. byte ∙ position_after g.R.ReadBytes.source c.args.input.now c.loop.input known (h.known known) (h.values known) small front e) c.in-Err.fault b bound (read_as {b = b} (ap (decoder_answer frame_block) c.in-Err.is) c.read_frame-read.ensures.is_read)
     (sym c.is_io_error-is_last.ensures ∙ c.if-is_last.true) c.in_ok-walk-in-Err.ensures.ok.1

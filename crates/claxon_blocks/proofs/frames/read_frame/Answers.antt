@@ -1,11 +1,11 @@
-use Rattle.std.proofs.Common.{◌≡◌, ℕ, length, Option, None, refl, rules, subst, sym}
+use Rattle.std.proofs.Common.{◌≡◌, ℕ, length, Option, None, refl, rules, subst, sym, vec_capacity}
 use Rattle.std.specs.Prelude.{IsTrue, Ok, Err, Some, Result, ◌↔◌}
 use Rattle.claxon.specs.DecodedFrame.{DecodedAnswer, frame_answer}
 use Rattle.claxon.specs.DecodedFrames.{DecodedFrame}
 use Rattle.claxon.specs.RunningReader.{running_inner}
 use Rattle.claxon.specs.Error.{IsFault}
 use Rattle.claxon.specs.Fault.{BitDepthReserved, Fault}
-use Rattle.claxon.specs.FrameReader.{BlockHasSamples, stream_with}
+use Rattle.claxon.specs.FrameReader.{BlockHasSamples, BlockKeepsCapacity, stream_with}
 use Rattle.claxon.specs.SampleRuns.{lent}
 use Rattle.claxon.specs.State.{RemainingIsKnown, bytes_in}
 use Rattle.claxon.proofs.SamplesInTurn.{reads_as}
@@ -14,7 +14,7 @@ use Rattle.claxon_blocks.specs.Frames.{FourSay32Bits, decoder_answer, frame_bloc
 use Rattle.claxon_blocks.specs.declared.frames.FrameError.{FrameError}
 use Rattle.claxon_blocks.specs.declared.frames.first_bytes.FirstBytes.{FirstBytes}
 use Rattle.claxon_blocks.proofs.FirstBytes.{fault_keeps, tells}
-use Rattle.claxon_blocks.proofs.ReadsBelow.{first_below, reads_below, same_reference, sound_below, tells_below}
+use Rattle.claxon_blocks.proofs.ReadsBelow.{first_below, memory_below, reads_below, same_reference, sound_below, tells_below}
 use Rattle.claxon_blocks.proofs.frames.read_frame.Goals as goal
 
 -- the decoder's answer where none is an Err
@@ -41,6 +41,17 @@ returns-in-Ok-clause-has_header g c =
 
 pub returns-in-Ok-clause-has_samples : goal.returns-in-Ok-clause-has_samples
 returns-in-Ok-clause-has_samples g c = subst BlockHasSamples (same_answer c.in-Ok.frame) c.in-Ok.ensures.has_samples
+
+pub returns-in-Ok-clause-keeps_capacity : goal.returns-in-Ok-clause-keeps_capacity
+returns-in-Ok-clause-keeps_capacity g c = subst (BlockKeepsCapacity (vec_capacity c.args.buffer)) (same_answer c.in-Ok.frame) c.in-Ok.ensures.keeps_capacity
+
+pub returns-in-Err-clause-out_of_memory_after_header : goal.returns-in-Err-clause-out_of_memory_after_header
+returns-in-Err-clause-out_of_memory_after_header g c =
+    let read = c.read_from-found in
+    let source = g.R.ReadBytes.source in
+    let n = same_reference source update_first _ c.new-input.result read.new.input c.new-input.ensures.inner read.ensures.reads_frame in
+    let k = memory_below source update_first _ c.new-input.result read.new.input c.new-input.ensures.inner (Some (stream_with c.args.info)) (vec_capacity c.args.buffer) (Err c.in-Err.error) c.in-Err.ensures.out_of_memory_after_header in
+    search rules
 
 pub returns-in-Err-clause-is_read : goal.returns-in-Err-clause-is_read
 returns-in-Err-clause-is_read g c =

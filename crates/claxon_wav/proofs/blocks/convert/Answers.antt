@@ -1,4 +1,5 @@
 use Rattle.std.proofs.Common.{Option, Some, ap, inr, subst, ℕ}
+use Rattle.std.specs.Prelude.{Err, Result}
 use Rattle.std.proofs.lemmas.Result.{err_from_is_err_and}
 use Rattle.claxon.specs.BufferedReader.{buffered_source}
 use Rattle.claxon.specs.Frame.{IsBitDepth, StreamFormat, known_bit_depth}
@@ -6,9 +7,11 @@ use Rattle.claxon.specs.FrameReader.{stream_with}
 use Rattle.claxon.specs.Opening.{flac_bytes}
 use Rattle.claxon.specs.State.{State, bytes_in}
 use Rattle.claxon.specs.StreamInfos.{StreamInfo}
-use Rattle.claxon_wav.specs.Convert.{PutsAndHashes, StopsPutting, flac_bit_depth}
+use Rattle.claxon_wav.specs.Convert.{PutOutOfMemoryForLargerBlock, PutsAndHashes, StopsPutting, flac_bit_depth}
+use Rattle.claxon_wav.specs.Writer.{TriesToEnd}
+use Rattle.claxon_wav.specs.declared.error.Error.{Error}
 use Rattle.claxon_write.specs.WriteSamples.{flac_stream}
-use Rattle.claxon_wav.proofs.Converting.{converted, end_complete, end_explained, not_eof, shown_as, stop_complete, stop_explained, stop_named}
+use Rattle.claxon_wav.proofs.Converting.{converted, end_complete, end_explained, end_has_memory, ended_after_all, not_eof, shown_as, stop_complete, stop_explained, stop_named}
 use Rattle.claxon_wav.proofs.blocks.convert.Given.{Over}
 use Rattle.claxon_wav.proofs.blocks.convert.Goals as goal
 
@@ -59,3 +62,21 @@ returns-in_err-outcome-clause-fault_is_complete g c =
     let bit_depth : IsBitDepth (known_bit_depth (flac_stream c.args.flac.now)) = subst (λ (i : StreamInfo). IsBitDepth (known_bit_depth (Some (stream_with i)))) c.streaminfo-info.ensures.value (bounds.some_bits, bounds.bits) in
     let p = err_from_is_err_and c.from_residual.result c.from_residual.ensures.1 in
     rw (p.1, p.2) (λ f can. stop_named (flac_stream c.args.flac.now) bit_depth c.finish-finished.new.self c.finish-finished.ensures.few_writes_failed f c.in_err-outcome.field-0.0 (stopped g c) can)
+
+pub returns-clause-out_of_memory_for_larger_block : goal.returns-clause-out_of_memory_for_larger_block
+returns-clause-out_of_memory_for_larger_block g c = λ m. absurd (end_has_memory c.put_blocks-outcome.new.wav c.finish-finished.new.self c.finish-finished.result c.finish-finished.ensures.fault_is_sound m)
+
+pub returns-in_err-outcome-clause-out_of_memory_for_larger_block : goal.returns-in_err-outcome-clause-out_of_memory_for_larger_block
+returns-in_err-outcome-clause-out_of_memory_for_larger_block g c =
+    let source = buffered_source g.R.Read.remaining in
+    let p = err_from_is_err_and c.from_residual.result c.from_residual.ensures.1 in
+    let memory = shown_as source (λ (s : Option StreamFormat) (a : State _). PutOutOfMemoryForLargerBlock s (let r : Result (Unit {0}) Error = Err c.in_err-outcome.field-0.0 in r) a (bytes_in source c.put_blocks-outcome.new.input)) c.streaminfo-info.ensures.value c.input.ensures.input c.in_err-outcome.ensures.out_of_memory_for_larger_block in
+    rw (p.1, p.2) memory
+
+pub returns-clause-fault_finishes : goal.returns-clause-fault_finishes
+returns-clause-fault_finishes g c = ended_after_all g.W.Write.contents (TriesToEnd g.W.Write.contents) (flac_stream c.args.flac.now) (flac_bytes g.R.Read.remaining c.args.flac.now) (bytes_in (buffered_source g.R.Read.remaining) c.put_blocks-outcome.new.input) c.args.wav.now c.put_blocks-outcome.new.wav c.finish-finished.new.self c.finish-finished.result (all_put g c).put c.finish-finished.ensures.tries_to_end
+
+pub returns-in_err-outcome-clause-fault_finishes : goal.returns-in_err-outcome-clause-fault_finishes
+returns-in_err-outcome-clause-fault_finishes g c =
+    let p = err_from_is_err_and c.from_residual.result c.from_residual.ensures.1 in
+    rw (p.1, p.2) (c.put_blocks-outcome.new.wav, c.finish-finished.ensures.tries_to_end, inr (stopped g c))

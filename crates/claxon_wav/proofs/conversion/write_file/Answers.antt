@@ -1,13 +1,34 @@
+use Rattle.std.proofs.Common.{rules, subst, sym, ◌∙◌}
 use Rattle.claxon.specs.FlacReader.{flac_streaminfo}
 use Rattle.claxon.specs.MetadataBlock.{info_view}
 use Rattle.claxon.specs.StreamInfos.{StreamInfo}
 use Rattle.claxon_blocks.specs.Md5Verdict.{Md5IsJudged}
-use Rattle.std.proofs.Common.{subst}
 use Rattle.claxon_wav.proofs.Converting.{judged}
+use Rattle.claxon_wav.proofs.Planned.{corrected_file, planned_file}
+use Rattle.claxon_wav.proofs.SampleCounts.{counted}
 use Rattle.claxon_wav.proofs.conversion.write_file.Goals as goal
 
-pub returns : goal.returns
-returns g c =
+pub returns-clause-is_sound : goal.returns-clause-is_sound
+returns-clause-is_sound g c =
     let all = c.in_ok-convert.ensures.is_sound in
     let tells = subst (λ (i : StreamInfo). Md5IsJudged (info_view i) c.convert.new.md5 c.judge_md5.result) c.streaminfo-info.ensures.value c.judge_md5.ensures.md5_is_judged in
-    record { verdict_is_sound = (all.blocks, all.all, judged c.args.plan.computes_md5 (flac_streaminfo c.args.flac.now) all.blocks c.new_hasher-md5.result c.convert.new.md5 c.judge_md5.result c.new_hasher-md5.ensures.has_hashed_bytes all.hashes tells) }
+    let begins = c.in_ok-start.ensures.is_sound in
+    let count = counted g.W.Write.contents all.blocks c.start.new.self all.put c.convert.new.wav all.puts begins.writes.none_so_far all.right.written_is all.right.layout_is in (
+      all.blocks,
+      all.all,
+      c.samples-samples.ensures ∙ count,
+      judged c.args.plan.computes_md5 (flac_streaminfo c.args.flac.now) all.blocks c.new_hasher-md5.result c.convert.new.md5 c.judge_md5.result c.new_hasher-md5.ensures.has_hashed_bytes all.hashes tells,
+    )
+
+pub returns-clause-writes_file : goal.returns-clause-writes_file
+returns-clause-writes_file g c =
+    let all = c.in_ok-convert.ensures.is_sound in
+    let fresh = c.new-wav.ensures.is_new_writer in
+    let same = c.into_output.ensures.is_output_of.same_reference ∙ (c.in_ok-convert.ensures.same_output ∙ (c.in_ok-start.ensures.same_output ∙ fresh.counts.same_reference)) in
+    let e = sym same in
+    let k = planned_file g.W.Write.contents c.args.plan all.blocks c.new-wav.result c.start.new.self c.convert.new.wav fresh.layout_is c.unwrap_or.result c.unwrap_or.ensures c.in_ok-start.ensures.is_sound all.file in
+    let w = c.into_output.ensures.is_output_of.writer in
+    let j = rw (← w, fresh.counts.writer) at k in
+    let n = corrected_file g.W.Write.contents c.args.plan all.blocks c.new-wav.result c.start.new.self c.convert.new.wav fresh.layout_is g.W.Seek.stream_position all.put c.unwrap_or.result c.unwrap_or.ensures c.in_ok-start.ensures.is_sound all.puts all.ends in
+    let m = rw (← w, fresh.counts.writer) at n in
+    (all.blocks, all.all, search rules, search rules)

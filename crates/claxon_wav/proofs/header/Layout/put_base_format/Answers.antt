@@ -5,8 +5,8 @@ use Rattle.claxon_wav.specs.WaveFile.{block_align, sample_size}
 use Rattle.claxon_wav.proofs.RiffChunks.{by, more}
 use Rattle.claxon_wav.proofs.header.Layout.put_base_format.Goals as goal
 
-pub returns : goal.returns
-returns c =
+pub returns-clause-is_sound : goal.returns-clause-is_sound
+returns-clause-is_sound c =
     let l = c.args.self.now in
     let code : c.to_le_bytes.result ≡ to_le_bytes w16 c.args.code = search rules in
     let channels : c.to_le_bytes-2.result ≡ to_le_bytes w16 l.channels = search rules in

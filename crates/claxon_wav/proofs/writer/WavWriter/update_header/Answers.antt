@@ -15,14 +15,14 @@ pub returns-in_err-of_output-clause-fault_is_sound : goal.returns-in_err-of_outp
 returns-in_err-of_output-clause-fault_is_sound g c =
     let p = err_from_is_err_and c.from_residual-in_err-of_output.result c.from_residual-in_err-of_output.ensures.1 in
     let k = output_failed c.rewind.result c.of_output.result c.in_err-of_output.field-0.0 c.of_output.ensures.is_output_result c.in_err-of_output.was c.rewind.ensures.failed in
-    rw (p.1, p.2) (inr (k.0, inr (inr k.1)))
+    rw (p.1, p.2) (k.0, inr (inr k.1))
 
 pub returns-in_err-of_output-2-clause-fault_is_sound : goal.returns-in_err-of_output-2-clause-fault_is_sound
 returns-in_err-of_output-2-clause-fault_is_sound g c =
     let p = err_from_is_err_and c.from_residual-in_err-of_output-2.result c.from_residual-in_err-of_output-2.ensures.1 in
     let moved = output_succeeded c.rewind.result c.of_output.result c.in_ok-of_output.field-0 c.of_output.ensures.is_output_result c.in_ok-of_output.was c.rewind.ensures.succeeded in
     let k = output_failed c.write_whole.result c.of_output-then-self.result c.in_err-of_output-2.field-0.0 c.of_output-then-self.ensures.is_output_result c.in_err-of_output-2.was c.write_whole.ensures.failed in
-    rw (p.1, p.2) (inr (k.0, inl (write_failed_after moved k.1)))
+    rw (p.1, p.2) (k.0, inl (write_failed_after moved k.1))
 
 -- no call failed before the flush, and none was a flush
 none_before : (g : Over) (c : goal.After-of_output-2 g) → CountsNoFailure c.args.self.now.output c.if-self.self.1.0 × CountsNoFlush c.args.self.now.output c.if-self.self.1.0
