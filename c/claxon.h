@@ -32,8 +32,12 @@ enum claxon_status {
     CLAXON_OUT_OF_MEMORY = 4,    /* malloc failed */
     CLAXON_NO_MORE = 5,          /* no further block, no further tag, no such frame */
     CLAXON_BUFFER_TOO_SMALL = 6, /* the samples don't fit */
-    CLAXON_OVER_BUDGET = 7       /* a search stopped, as headers say more samples than its budget */
+    CLAXON_OVER_BUDGET = 7       /* a search stopped, as headers cost more than its budget */
 };
+
+/* Writes what a status means, as "out of memory": a text that ends with 0, truncated if it doesn't fit. 64 bytes are enough.
+ * Those of claxon_stream.h have texts too. What is wrong with a stream is said by `error` of the other calls. */
+void claxon_status_text(uint32_t status, char *text, size_t text_size);
 
 /* The maximum number of samples in a block, of all channels together. */
 #define CLAXON_MAX_SAMPLES (8 * 65535)
@@ -153,11 +157,16 @@ uint32_t claxon_vendor(const uint8_t *content, size_t length, size_t *vendor_at,
 uint32_t claxon_next_tag(const uint8_t *content, size_t length, size_t *at, struct claxon_tag *tag, char *error,
                          size_t error_size);
 
+/* Whether the tag has this name in the content, in which a-z and A-Z are the same (RFC 9639, section 8.6): 1 if so, else 0.
+ * `name` needs no 0 at its end. */
+uint32_t claxon_tag_has_name(const uint8_t *content, size_t length, const struct claxon_tag *tag, const char *name,
+                             size_t name_length);
+
 /* Decodes the frame at the position *at. With CLAXON_OK, `block` is filled, channels * duration samples are written,
  * interleaved, and *at is moved after the frame. With any other status *at and the samples are unchanged:
- * NO_MORE: fewer than two bytes are left. INPUT_ENDS: the bytes end within the frame. BUFFER_TOO_SMALL: a frame's header is
- * there, `block` is filled from it, and its samples don't fit; no more than the header was read. FORMAT_ERROR, UNSUPPORTED,
- * OUT_OF_MEMORY, INPUT_ENDS: `error` gets a text. */
+ * NO_MORE: fewer than two bytes are left. INPUT_ENDS: the bytes end within the frame; or 2^32 zero bits run in it, and more
+ * bytes don't help. BUFFER_TOO_SMALL: a frame's header is there, `block` is filled from it, and its samples don't fit; no more
+ * than the header was read. FORMAT_ERROR, UNSUPPORTED, OUT_OF_MEMORY, INPUT_ENDS: `error` gets a text. */
 uint32_t claxon_next_block(const uint8_t *bytes, size_t length, size_t *at, const struct claxon_info *info, int32_t *samples,
                            size_t capacity, struct claxon_block *block, char *error, size_t error_size);
 
@@ -166,6 +175,16 @@ uint32_t claxon_next_block(const uint8_t *bytes, size_t length, size_t *at, cons
 uint32_t claxon_next_block_planar(const uint8_t *bytes, size_t length, size_t *at, const struct claxon_info *info,
                                   int32_t *samples, size_t capacity, struct claxon_block *block, char *error,
                                   size_t error_size);
+
+/* Converts `count` samples of `bits_per_sample` bits, in any order, to 16 bits of full scale: to the upper 16 of their bits, so
+ * that more bits are rounded down; fewer get zeros below. Of a sample with more bits than it should have the upper ones are
+ * lost. OK: `count` numbers are written. UNSUPPORTED: the number of bits isn't 1 to 32. BUFFER_TOO_SMALL: `capacity` is below
+ * `count`. Without OK nothing is changed. */
+uint32_t claxon_to_int16(const int32_t *samples, size_t count, uint32_t bits_per_sample, int16_t *numbers, size_t capacity);
+
+/* As claxon_to_int16, to single precision: the float nearest to the sample, divided by 2^(bits_per_sample - 1), so from -1
+ * to 1. Up to 25 bits that is exact. */
+uint32_t claxon_to_float(const int32_t *samples, size_t count, uint32_t bits_per_sample, float *numbers, size_t capacity);
 
 /* The CRC of a frame (RFC 9639, section 9.3), as far as its bytes are there: `crc` is that of the bytes before these, 0 at
  * first, and the result that of all of them. After a whole frame it is 0: its last two bytes are the CRC of the others. */
@@ -178,23 +197,30 @@ void claxon_md5_start(struct claxon_md5 *md5);
  * sample with more bits the low bytes are hashed. UNSUPPORTED: it isn't 1 to 32; nothing is changed. Else OK. */
 uint32_t claxon_md5_samples(struct claxon_md5 *md5, const int32_t *samples, size_t count, uint32_t bits_per_sample);
 
+/* The same for planar samples, those of one channel after those of another, as claxon_next_block_planar writes them: `count`
+ * of 1 to 8 channels together. UNSUPPORTED also for another number of channels, or a `count` that isn't a multiple of it. */
+uint32_t claxon_md5_planar(struct claxon_md5 *md5, const int32_t *samples, size_t count, uint32_t channels,
+                           uint32_t bits_per_sample);
+
 /* Fills `sum` with the sum of the samples that were hashed. More may be hashed after it. */
 void claxon_md5_finish(const struct claxon_md5 *md5, uint8_t sum[16]);
 
 /* Finds the first frame of the stream from the position *at on: one with the number of channels and the bit depth of `info`,
- * or any frame where `info` is all zeros. With CLAXON_OK, *at is moved to the frame, and `block` is filled from its header.
- * NO_MORE: there is none; *at is moved to where a search goes on once there are more bytes: before it none can begin, whatever
- * follows. OVER_BUDGET: *at is moved to a header whose block has more samples than *budget, and no frame begins before it; a
- * search from there goes on, with a budget of CLAXON_MAX_SAMPLES or more. OUT_OF_MEMORY: nothing is changed.
- * `block` is changed with CLAXON_OK alone. The samples, of all channels, of each block whose header is found are taken from
- * *budget, whether its frame stands there or not: so hostile bytes cost no more time than it allows. UINT64_MAX is no limit. */
+ * or any frame whose header gives its bit depth where `info` is all zeros. With CLAXON_OK, *at is moved to the frame, and
+ * `block` is filled from its header. NO_MORE: there is none; *at is moved to where a search goes on: before it none can
+ * begin, whatever follows. OVER_BUDGET: *at is moved to a header whose block has more samples than *budget, and no frame begins
+ * before it; a search from there goes on, with a budget of CLAXON_MAX_SAMPLES or more. OUT_OF_MEMORY: nothing is changed.
+ * `block` is changed with CLAXON_OK alone. From *budget are taken, down to 0, the samples, of all channels, of each block whose
+ * header is found, and where no frame stands there the bytes that are read to find that: up to the fault, or all. So the time
+ * is linear in `length` and *budget, also for hostile bytes. UINT64_MAX is no limit. */
 uint32_t claxon_find_frame(const uint8_t *bytes, size_t length, size_t *at, const struct claxon_info *info, uint64_t *budget,
                            struct claxon_block *block);
 
 /* Finds a frame from info->first_frame on whose block has the sample: block.time <= sample < block.time + block.duration. With
  * CLAXON_OK, *at is the frame's position, from which claxon_next_block decodes it, and `block` is filled from its header.
- * NO_MORE: there is none. OVER_BUDGET: in a stream that is damaged or hostile, headers whose blocks would have the sample have
- * more samples than `budget`. OUT_OF_MEMORY. With any status but OK nothing is changed. */
+ * NO_MORE: there is none; with an `info` of zeros a shorter last block of a fixed block size has a wrong time, and isn't
+ * found. OVER_BUDGET: headers whose blocks would have the sample, but that begin no frame, cost more than `budget`, as in
+ * claxon_find_frame. OUT_OF_MEMORY. With any status but OK nothing is changed. */
 uint32_t claxon_seek(const uint8_t *bytes, size_t length, const struct claxon_info *info, uint64_t sample, uint64_t budget,
                      size_t *at, struct claxon_block *block);
 

@@ -43,17 +43,22 @@
 #endif
 
 /* Reads at most `length` bytes, at least one, and returns their number, or 0 at the end. What is there is to be returned, as
- * read(2) does it, without waiting for more. More than `length` says that reading failed, so that the -1 of read(2) may be
- * returned as it is. It isn't called again after the end or a failure, unless a seek has succeeded. */
+ * read(2) does it, without waiting for more. Where nothing can be read now, as with EAGAIN, it may return CLAXON_NOT_NOW. Any
+ * other number above `length` says that reading failed, so that the -1 of read(2) may be returned as it is. It isn't called
+ * again after the end or a failure, unless a seek has succeeded. */
 typedef size_t claxon_stream_read(void *source, uint8_t *bytes, size_t length);
+
+/* What it returns where nothing can be read now, but later. */
+#define CLAXON_NOT_NOW ((size_t)-2)
 
 /* Moves the source as lseek(2) does: by `offset` from its start (SEEK_SET), from where it is (SEEK_CUR) or from its end
  * (SEEK_END). Returns where it is then, in bytes from its start, or -1 where that fails. To move past the end isn't a failure:
  * reading there gives the end. Where the end isn't known, SEEK_END may fail. */
 typedef int64_t claxon_stream_seek_to(void *source, int64_t offset, int whence);
 
-/* What a call returns where the bytes are handed in and those that are there don't suffice: nothing is lost, and the call is
- * to be repeated after claxon_stream_feed or claxon_stream_feed_end. It is far from the numbers of enum claxon_status. */
+/* What a call returns where the bytes that are there don't suffice: nothing is lost, and the call is to be repeated, after
+ * claxon_stream_feed or claxon_stream_feed_end where bytes are handed in, and later where the callback returned CLAXON_NOT_NOW.
+ * It is far from the numbers of enum claxon_status. */
 #define CLAXON_NEED_MORE 100
 
 /* What a call returns where a callback failed, of the source and not of the stream: `error` is "reading failed" or "seeking
@@ -120,12 +125,17 @@ CLAXON_STATIC void claxon_stream_free(struct claxon_stream *stream);
 CLAXON_STATIC uint32_t claxon_stream_next_metadata(struct claxon_stream *stream, struct claxon_metadata *metadata);
 
 /* Reads the next bytes of the content of that block. Returns their number: less than `length` where its content, the stream
- * or what was handed in ends. */
+ * or what is there ends. */
 CLAXON_STATIC size_t claxon_stream_content(struct claxon_stream *stream, uint8_t *bytes, size_t length);
 
 /* Reads the head, or what is left of it. With CLAXON_OK, the stream is at its first frame or after it. Else as
  * claxon_stream_next_metadata. */
 CLAXON_STATIC uint32_t claxon_stream_open(struct claxon_stream *stream);
+
+/* Finds the next tag of this name, in upper or lower case, in `comments`. *at is 0 for the first one. With CLAXON_OK, `tag` is
+ * filled, as by claxon_next_tag, and *at is moved after it. NO_MORE: none is left. */
+CLAXON_STATIC uint32_t claxon_stream_find_tag(const struct claxon_stream *stream, const char *name, size_t *at,
+                                              struct claxon_tag *tag);
 
 /* Decodes the next frame into `block` and `samples`, interleaved. It opens the stream first where that wasn't done.
  * NO_MORE: the stream is at its end. FORMAT_ERROR, UNSUPPORTED, INPUT_ENDS: there is no frame at `position`, which stays,
@@ -151,14 +161,16 @@ CLAXON_STATIC void claxon_stream_set_seek(struct claxon_stream *stream, claxon_s
  * frame, all frames are searched. NO_MORE: none has the sample; the stream is at its end. UNSUPPORTED: no callback seeks; the
  * stream stays where it is, as it does after READ_FAILED where the source doesn't say where it is, as a pipe. READ_FAILED,
  * OUT_OF_MEMORY: reading or seeking failed, or memory was refused. OVER_BUDGET: none was found, and some bytes were passed over
- * unsearched, as by resync. After these three a call for a block returns READ_FAILED until a seek has succeeded; it may be
- * repeated. After a fault of the head it is returned. */
+ * unsearched, as by resync. NEED_MORE: the source can't be read now. After these four a call for a block returns READ_FAILED
+ * until a seek has succeeded; it may be repeated, and begins anew. After a fault of the head it is returned. */
 CLAXON_STATIC uint32_t claxon_stream_seek(struct claxon_stream *stream, uint64_t sample);
 
-/* A claxon_stream_read whose source is a FILE *. It waits for all bytes that it is asked for, as fread does. */
+/* A claxon_stream_read whose source is a FILE *. It waits for all bytes that it is asked for, as fread does, and returns
+ * CLAXON_NOT_NOW where there is none and its descriptor doesn't wait. */
 CLAXON_STATIC size_t claxon_stream_fread(void *file, uint8_t *bytes, size_t length);
 
-/* A claxon_stream_read whose source is an int *, a file descriptor. Of a pipe or a socket it returns what is there. */
+/* A claxon_stream_read whose source is an int *, a file descriptor. Of a pipe or a socket it returns what is there, and
+ * CLAXON_NOT_NOW where that is nothing and the descriptor doesn't wait, or its time is up. */
 CLAXON_STATIC size_t claxon_stream_read_fd(void *fd, uint8_t *bytes, size_t length);
 
 /* The callbacks that seek for these two. A pipe or a socket can't be sought. */
@@ -232,8 +244,25 @@ CLAXON_STATIC void claxon_stream_free(struct claxon_stream *stream) {
     stream->kept_head = NULL;
 }
 
+/* Whether a read that has failed with this number failed just now. */
+CLAXON_STATIC int claxon_stream_is_not_now(int number) {
+    return number == EAGAIN || number == EWOULDBLOCK;
+}
+
 CLAXON_STATIC size_t claxon_stream_fread(void *file, uint8_t *bytes, size_t length) {
-    size_t count = fread(bytes, 1, length, (FILE *)file);
+    size_t count;
+    int number;
+    do {
+        errno = 0;
+        count = fread(bytes, 1, length, (FILE *)file);
+        number = count < length && ferror((FILE *)file) ? errno : 0;
+        if (number == EINTR || claxon_stream_is_not_now(number)) {
+            clearerr((FILE *)file); /* it would be seen at the end */
+        }
+    } while (count == 0 && number == EINTR);
+    if (count == 0 && claxon_stream_is_not_now(number)) {
+        return CLAXON_NOT_NOW;
+    }
     return count == 0 && ferror((FILE *)file) ? (size_t)-1 : count;
 }
 
@@ -242,7 +271,7 @@ CLAXON_STATIC size_t claxon_stream_read_fd(void *fd, uint8_t *bytes, size_t leng
     do {
         count = read(*(int *)fd, bytes, length);
     } while (count < 0 && errno == EINTR);
-    return (size_t)count;
+    return count < 0 && claxon_stream_is_not_now(errno) ? CLAXON_NOT_NOW : (size_t)count;
 }
 
 CLAXON_STATIC int64_t claxon_stream_fseek(void *file, int64_t offset, int whence) {
@@ -324,6 +353,9 @@ CLAXON_STATIC uint32_t claxon_stream_read_more(struct claxon_stream *stream) {
     }
     length = size - stream->held < stream->at_once ? size - stream->held : stream->at_once;
     got = stream->read(stream->source, stream->window + stream->held, length);
+    if (got == CLAXON_NOT_NOW) {
+        return claxon_stream_no_fault(stream, CLAXON_NEED_MORE);
+    }
     stream->has_failed = got > length ? CLAXON_STREAM_READ_FAILED : 0;
     stream->has_ended = got == 0 || got > length;
     if (!stream->has_ended) {
@@ -531,17 +563,17 @@ CLAXON_STATIC uint32_t claxon_stream_grow_made_head(struct claxon_stream *stream
 
 /* Reads the content of a block that claxon_open looks into, after the head that is made for it. */
 CLAXON_STATIC uint32_t claxon_stream_make_head(struct claxon_stream *stream) {
-    size_t before = stream->head_length + 4, got;
+    size_t before = stream->head_length + 4, got, space;
     do {
         uint32_t status = claxon_stream_grow_made_head(stream);
         if (status != CLAXON_OK) {
             return status;
         }
-        got = claxon_stream_content(stream, stream->made_head + before + stream->made_length,
-                                    stream->made_size - stream->made_length);
+        space = stream->made_size - stream->made_length;
+        got = claxon_stream_content(stream, stream->made_head + before + stream->made_length, space);
         stream->made_length += got;
-    } while (got > 0 && stream->made_length < stream->metadata.length);
-    if (stream->made_length < stream->metadata.length && !stream->read && !stream->has_ended) {
+    } while (got == space && stream->made_length < stream->metadata.length);
+    if (stream->made_length < stream->metadata.length && !stream->has_ended) {
         return CLAXON_NEED_MORE;
     }
     memcpy(stream->made_head, stream->head, before);
@@ -639,6 +671,16 @@ CLAXON_STATIC uint32_t claxon_stream_open(struct claxon_stream *stream) {
         status = claxon_stream_next_metadata(stream, &metadata);
     } while (status == CLAXON_OK);
     return status == CLAXON_NO_MORE ? (uint32_t)CLAXON_OK : status;
+}
+
+CLAXON_STATIC uint32_t claxon_stream_find_tag(const struct claxon_stream *stream, const char *name, size_t *at,
+                                              struct claxon_tag *tag) {
+    uint32_t status;
+    char error[1];
+    do {
+        status = claxon_next_tag(stream->comments, stream->comments_length, at, tag, error, sizeof error);
+    } while (status == CLAXON_OK && !claxon_tag_has_name(stream->comments, stream->comments_length, tag, name, strlen(name)));
+    return status;
 }
 
 /* Makes room for so many samples. */
@@ -1193,7 +1235,7 @@ CLAXON_STATIC uint32_t claxon_stream_seek(struct claxon_stream *stream, uint64_t
     if (status == CLAXON_NO_MORE) {
         status = claxon_stream_seek_by_search(stream, sample);
     }
-    if (status == CLAXON_READ_FAILED || status == CLAXON_OUT_OF_MEMORY || status == CLAXON_OVER_BUDGET) {
+    if (status != CLAXON_OK && status != CLAXON_NO_MORE) {
         char text[sizeof stream->error];
         memcpy(text, stream->error, sizeof text);
         claxon_stream_lose(stream);

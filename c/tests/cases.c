@@ -673,6 +673,48 @@ static void test_other_depths(void) {
     }
 }
 
+/* Sample i of channel ch is 7919 * i + 104729 * ch, modulo 65536, less 32768. The sums of 1300 samples of each of 1 to 8
+ * channels are those of Python's hashlib, over interleaved samples of 16 bits that its struct packed. */
+static const char *planar_sums[] = {
+    "56d50ced1c16c660eb39e8b0d6938c7a", "a8100fd960ee22471233d71f6f1d2e07", "15223fa6f809bce0b863e15361a27095",
+    "8cbb1a6f7cc1bdb23cafe750bc02c907", "498faa5af54fe98051f6b2c6ff5b1c9d", "67e31db91afe8256a7213005ade1f96c",
+    "11f4ca7fe3b370f95ecdf86fcf11f61b", "59f8fb29c15fc5834c195f28212cf3c3",
+};
+
+/* Whatever is hashed before: half of the samples of each channel, and then the other half. */
+static void test_planar_sums(void) {
+    enum { DURATION = 1300, HALF = 650 };
+    struct claxon_md5 md5;
+    for (uint32_t channels = 1; channels <= 8; channels++) {
+        claxon_md5_start(&md5);
+        for (size_t start = 0; start < DURATION; start += HALF) {
+            for (size_t ch = 0; ch < channels; ch++) {
+                for (size_t i = 0; i < HALF; i++) {
+                    samples[ch * HALF + i] = (int32_t)((7919 * (start + i) + 104729 * ch) % 65536) - 32768;
+                }
+            }
+            expect(claxon_md5_planar(&md5, samples, channels * HALF, channels, 16) == CLAXON_OK, "claxon_md5_planar", "half");
+            expect(claxon_md5_planar(&md5, samples, 0, channels, 16) == CLAXON_OK, "claxon_md5_planar", "no samples");
+        }
+        expect_sum(&md5, planar_sums[channels - 1], "of planar samples");
+    }
+}
+
+static void test_other_planar(void) {
+    const struct {
+        size_t count;
+        uint32_t channels, bits;
+    } others[] = {{6, 2, 0}, {6, 2, 33}, {6, 0, 16}, {6, 9, 16}, {9, 9, 16}, {7, 2, 16}, {1, 8, 16}, {6, UINT32_MAX, 16}};
+    struct claxon_md5 md5, before;
+    memset(&md5, UNTOUCHED, sizeof md5);
+    before = md5;
+    for (size_t i = 0; i < sizeof others / sizeof *others; i++) {
+        expect(claxon_md5_planar(&md5, samples, others[i].count, others[i].channels, others[i].bits) == CLAXON_UNSUPPORTED,
+               "claxon_md5_planar", "other samples");
+        expect(memcmp(&md5, &before, sizeof md5) == 0, "claxon_md5_planar", "a sum after other samples");
+    }
+}
+
 /* A file of a real encoder has the sum that this encoder gave it. */
 static int test_sum_of(const char *name, const uint8_t *bytes, size_t length) {
     const char *names[] = {"eight_bits.flac",         "escapes_of_a_real_encoder.flac",
@@ -698,7 +740,140 @@ static int test_sum_of(const char *name, const uint8_t *bytes, size_t length) {
     }
     claxon_md5_finish(&md5, sum);
     expect(memcmp(sum, info.md5, 16) == 0, name, "the MD5 sum");
+    claxon_md5_start(&md5);
+    for (size_t at = info.first_frame; claxon_next_block_planar(bytes, length, &at, &info, samples, CLAXON_MAX_SAMPLES, &block,
+                                                                error, sizeof error) == CLAXON_OK;) {
+        claxon_md5_planar(&md5, samples, (size_t)block.channels * block.duration, block.channels, info.bits_per_sample);
+    }
+    claxon_md5_finish(&md5, sum);
+    expect(memcmp(sum, info.md5, 16) == 0, name, "the MD5 sum of planar samples");
     return 1;
+}
+
+/* The texts of statuses, which are cut where they don't fit. */
+
+static void test_status_texts(void) {
+    static const char *texts[] = {"ok",
+                                  "the stream is ill-formed",
+                                  "the stream has something that isn't supported",
+                                  "the bytes end too early",
+                                  "out of memory",
+                                  "there is no more",
+                                  "the samples don't fit",
+                                  "the search stopped at its budget",
+                                  "unknown status"};
+    char text[64];
+    for (uint32_t status = 0; status < 9; status++) {
+        memset(text, 'x', sizeof text);
+        claxon_status_text(status, text, sizeof text);
+        expect(strcmp(text, texts[status]) == 0, "claxon_status_text", texts[status]);
+        expect(text[strlen(text) + 1] == 'x', "claxon_status_text", "what is after the text");
+    }
+    claxon_status_text(100, text, sizeof text);
+    expect(strcmp(text, "more bytes are needed") == 0, "claxon_status_text", "CLAXON_NEED_MORE");
+    claxon_status_text(101, text, sizeof text);
+    expect(strcmp(text, "reading or seeking failed") == 0, "claxon_status_text", "CLAXON_READ_FAILED");
+    claxon_status_text(CLAXON_OUT_OF_MEMORY, text, 4);
+    expect(strcmp(text, "out") == 0 && text[4] == 'i', "claxon_status_text", "a text that is cut");
+    claxon_status_text(CLAXON_OUT_OF_MEMORY, text, 0);
+    expect(strcmp(text, "out") == 0, "claxon_status_text", "a text without room");
+}
+
+/* A tag by its name. Letters outside ASCII have a case in this text too. */
+
+static uint32_t has_name(const char *own, const char *name) {
+    struct claxon_tag tag = {0, 0, 0, 0};
+    tag.name_length = strlen(own);
+    return claxon_tag_has_name((const uint8_t *)own, strlen(own), &tag, name, strlen(name));
+}
+
+static void test_tag_names(void) {
+    static const uint8_t content[] = "ab=cTiTlE=x";
+    struct claxon_tag tag = {4, 5, 10, 1};
+    const size_t length = sizeof content - 1;
+    const size_t outside[4][2] = {{length, 1}, {SIZE_MAX, 1}, {4, SIZE_MAX}, {SIZE_MAX, SIZE_MAX}};
+    expect(claxon_tag_has_name(content, length, &tag, "title", 5) == 1, "claxon_tag_has_name", "lower case");
+    expect(claxon_tag_has_name(content, length, &tag, "TITLE", 5) == 1, "claxon_tag_has_name", "upper case");
+    expect(claxon_tag_has_name(content, length, &tag, "title", 4) == 0, "claxon_tag_has_name", "a shorter name");
+    expect(claxon_tag_has_name(content, length, &tag, "title=", 6) == 0, "claxon_tag_has_name", "a longer name");
+    expect(claxon_tag_has_name(content, length, &tag, "titla", 5) == 0, "claxon_tag_has_name", "another name");
+    for (size_t i = 0; i < 4; i++) {
+        struct claxon_tag other = {outside[i][0], outside[i][1], 0, 0};
+        expect(claxon_tag_has_name(content, length, &other, "x", 1) == 0, "claxon_tag_has_name", "positions outside");
+    }
+    tag.name_at = length;
+    tag.name_length = 0;
+    expect(claxon_tag_has_name(content, length, &tag, "", 0) == 1, "claxon_tag_has_name", "no name");
+    for (unsigned byte = 1; byte < 128; byte++) {
+        for (unsigned other = 1; other < 128; other++) {
+            const char own[2] = {(char)byte, 0}, name[2] = {(char)other, 0};
+            int are_letters = (byte | 32) >= 'a' && (byte | 32) <= 'z';
+            expect(has_name(own, name) == (byte == other || (are_letters && (byte ^ other) == 32)), "claxon_tag_has_name",
+                   "a byte");
+        }
+    }
+    expect(has_name("\xc3\x84", "\xc3\xa4") == 0, "claxon_tag_has_name", "letters outside ASCII");
+}
+
+/* Samples of full scale, by the definitions in claxon.h. */
+
+#define CONVERTED 400
+
+static int32_t sample_of_bits(uint32_t bits, size_t i) {
+    int64_t least = -((int64_t)1 << (bits - 1)), sample;
+    static uint32_t state = 1;
+    state = state * 1664525 + 1013904223;
+    sample = i < 5 ? (int64_t)i - 2 : i < 10 ? least + (int64_t)i - 5 : i < 15 ? -least + 9 - (int64_t)i : (int32_t)state;
+    while (sample < least || sample > -least - 1) {
+        sample /= 2;
+    }
+    return (int32_t)sample;
+}
+
+static int16_t upper_16(uint32_t bits, int32_t sample) {
+    int64_t number = sample;
+    for (; bits < 16; bits++) {
+        number *= 2;
+    }
+    for (; bits > 16; bits--) {
+        number = (number - (number & 1)) / 2;
+    }
+    return (int16_t)number;
+}
+
+static void test_conversions(void) {
+    static int32_t all[CONVERTED];
+    static int16_t numbers[CONVERTED + 1];
+    static float floats[CONVERTED + 1];
+    for (uint32_t bits = 1; bits <= 32; bits++) {
+        for (size_t i = 0; i < CONVERTED; i++) {
+            all[i] = sample_of_bits(bits, i);
+        }
+        numbers[CONVERTED] = 77;
+        floats[CONVERTED] = 77;
+        expect(claxon_to_int16(all, CONVERTED, bits, numbers, CONVERTED + 1) == CLAXON_OK, "claxon_to_int16", "its status");
+        expect(claxon_to_float(all, CONVERTED, bits, floats, CONVERTED + 1) == CLAXON_OK, "claxon_to_float", "its status");
+        expect(numbers[CONVERTED] == 77 && floats[CONVERTED] == 77, "claxon_to_int16", "what is after the numbers");
+        for (size_t i = 0; i < CONVERTED; i++) {
+            double exact = (double)all[i] / (double)((int64_t)1 << (bits - 1));
+            expect(numbers[i] == upper_16(bits, all[i]), "claxon_to_int16", "a number");
+            expect(floats[i] == (float)exact && floats[i] >= -1 && floats[i] <= 1, "claxon_to_float", "a number");
+        }
+    }
+    all[0] = 0x12345;
+    all[1] = -0x12345;
+    expect(claxon_to_int16(all, 2, 16, numbers, 2) == CLAXON_OK && numbers[0] == 0x2345 && numbers[1] == -0x2345,
+           "claxon_to_int16", "samples of more bits");
+    for (uint32_t bits = 0; bits < 40; bits += 33) {
+        expect(claxon_to_int16(all, 2, bits, numbers, 2) == CLAXON_UNSUPPORTED, "claxon_to_int16", "no bit depth");
+        expect(claxon_to_float(all, 2, bits, floats, 2) == CLAXON_UNSUPPORTED, "claxon_to_float", "no bit depth");
+    }
+    floats[0] = 77;
+    expect(claxon_to_int16(all, 2, 16, numbers, 1) == CLAXON_BUFFER_TOO_SMALL && numbers[0] == 0x2345, "claxon_to_int16",
+           "too little room");
+    expect(claxon_to_float(all, 2, 16, floats, 1) == CLAXON_BUFFER_TOO_SMALL && floats[0] == 77, "claxon_to_float",
+           "too little room");
+    expect(claxon_to_int16(all, 0, 16, numbers, 0) == CLAXON_OK && numbers[0] == 0x2345, "claxon_to_int16", "no samples");
 }
 
 int main(int argc, char **argv) {
@@ -708,8 +883,13 @@ int main(int argc, char **argv) {
     test_positions();
     test_bit_depths();
     test_other_depths();
+    test_planar_sums();
+    test_other_planar();
     test_crc();
     test_formats();
+    test_status_texts();
+    test_tag_names();
+    test_conversions();
     expect(claxon_version() == CLAXON_VERSION, "claxon_version", "not that of claxon.h");
     expect(contents > 0, "blocks.txt", "no line");
     while (argc == 2 && next_known(&known)) {

@@ -196,6 +196,24 @@ static size_t put_frame_of_footers(uint8_t *bytes) {
     return put_crc(bytes, at);
 }
 
+/* Headers of frames whose codes are the headers after them, and then zeros: the last code of each runs through all of these. */
+static void long_codes(uint8_t *bytes, size_t length) {
+    const size_t each = 11;
+    size_t count = 1;
+    unsigned ones = 0;
+    while (count < 1600 && 15 * count * count < length) {
+        count++;
+    }
+    memset(bytes, 0, length);
+    for (size_t at = each * count; at > 0;) {
+        at -= each;
+        bytes[at + put_frame_header(bytes + at, 1, ones + 1)] = 0x10; /* then ten bits of 0, and Rice codes of 0 */
+        for (size_t i = 0; i < each; i++) {
+            ones += ones_of(bytes[at + i]);
+        }
+    }
+}
+
 /* They have some 250 million samples in half of the bytes. */
 static void frames_of_footers(uint8_t *bytes, size_t length) {
     const size_t most = 3 * 65535;
@@ -421,6 +439,7 @@ static const struct kind searched[] = {
     {"zeros after many headers", endless_frames, 1, SIZE_MAX, 0},
     {"headers with a wrong CRC", wrong_headers, 1, SIZE_MAX, 0},
     {"frames within frames", nested_frames, 1, SIZE_MAX, 0},
+    {"headers whose last code runs through all zeros", long_codes, 1, SIZE_MAX, 0},
     {"constant frames with a wrong CRC", constant_frames, 1, SIZE_MAX, 0},
     {"bytes ff", all_ff, 1, SIZE_MAX, 0},
     {"garbage", garbage, 1, SIZE_MAX, 0},

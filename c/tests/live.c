@@ -5,10 +5,16 @@
  *   names, in pieces of several sizes.
  * - Frames of one and a half megabytes are no exception, and what is tried in vain stays in proportion to the bytes and reads.
  * - Another process sends the first stream through a pipe, and waits for each block before it goes on. Where a block is held
- *   back, both wait for ever: they are ended after two minutes.
+ *   back, both wait for ever: they are ended after two minutes. The pipe is also read as an event loop does it, which waits for
+ *   bytes where a call needs more.
+ * - A socket whose time to wait is up gives the same block later.
  *
  * With 0 ROUNDS the smaller files are read alone, for tools that make it slow. */
 #define _POSIX_C_SOURCE 200809L
+#include <fcntl.h>
+#include <poll.h>
+#include <sys/socket.h>
+#include <sys/time.h>
 #include <sys/types.h>
 #include <sys/wait.h>
 #include <unistd.h>
@@ -357,6 +363,61 @@ static void test_pipe(const struct live *live, size_t piece) {
     finish(&peer);
 }
 
+/* The next block of a descriptor that doesn't wait. */
+static uint32_t next_when_ready(struct claxon_stream *stream, int fd, size_t *waits) {
+    struct pollfd ready = {fd, POLLIN, 0};
+    uint32_t status;
+    while ((status = claxon_stream_next_block(stream)) == CLAXON_NEED_MORE) {
+        expect(!stream->error[0] && poll(&ready, 1, -1) == 1, "an event loop", "more is needed");
+        ++*waits;
+    }
+    return status;
+}
+
+static void test_event_loop(const struct live *live, size_t piece, int is_file) {
+    struct claxon_stream stream;
+    struct peer peer = start(live, piece);
+    FILE *file = is_file ? fdopen(dup(peer.bytes), "rb") : NULL;
+    size_t blocks = 0, waits = 0;
+    uint32_t status;
+    expect(fcntl(peer.bytes, F_SETFL, O_NONBLOCK) == 0, "an event loop", "a pipe that doesn't wait");
+    claxon_stream_init(&stream, is_file ? claxon_stream_fread : claxon_stream_read_fd, is_file ? (void *)file : &peer.bytes);
+    while ((status = next_when_ready(&stream, peer.bytes, &waits)) == CLAXON_OK) {
+        struct frame frame = frame_of(blocks++);
+        test_samples("an event loop", &stream, &frame);
+        expect(write(peer.answers, "", 1) == 1, "an event loop", "an answer");
+    }
+    expect(status == CLAXON_NO_MORE && blocks == live->frames && !stream.error[0], "an event loop", "the end");
+    expect(waits > 0, "an event loop", "that it waits");
+    claxon_stream_free(&stream);
+    if (file) {
+        fclose(file);
+    }
+    finish(&peer);
+}
+
+/* The bytes of a frame, and each time that nothing was there. */
+static void test_time_out(const struct live *live) {
+    struct claxon_stream stream;
+    const struct timeval soon = {0, 1000};
+    const size_t places[4] = {live->first_frame - 1, live->first_frame, live->ends[0] - 1, live->ends[0]};
+    size_t at = 0;
+    int ends[2];
+    expect(socketpair(AF_UNIX, SOCK_STREAM, 0, ends) == 0, "a socket", "socketpair");
+    expect(setsockopt(ends[0], SOL_SOCKET, SO_RCVTIMEO, &soon, sizeof soon) == 0, "a socket", "its time");
+    claxon_stream_init(&stream, claxon_stream_read_fd, &ends[0]);
+    for (size_t i = 0; i < 4; i++) {
+        expect(claxon_stream_next_block(&stream) == CLAXON_NEED_MORE && !stream.error[0], "a socket", "its time is up");
+        expect(write(ends[1], live->bytes + at, places[i] - at) == (ssize_t)(places[i] - at), "a socket", "write");
+        at = places[i];
+    }
+    expect(claxon_stream_next_block(&stream) == CLAXON_OK && stream.position == at, "a socket", "a block");
+    close(ends[1]);
+    expect(claxon_stream_next_block(&stream) == CLAXON_NO_MORE, "a socket", "the end");
+    claxon_stream_free(&stream);
+    close(ends[0]);
+}
+
 static void test_pipe_by_feed(const struct live *live, size_t piece) {
     struct claxon_stream stream;
     struct peer peer = start(live, piece);
@@ -457,12 +518,16 @@ int main(int argc, char **argv) {
             test_huge(24);
         }
         test_feed_of_damaged_frames(&live);
-        alarm(120);
         for (size_t piece = 1; piece <= 1460; piece += 1459) {
             test_callback_after_damage("149 frames", &live, piece);
+            alarm(120);
             test_pipe(&live, piece);
             test_pipe_by_feed(&live, piece);
+            alarm(120);
+            test_event_loop(&live, piece, 0);
+            test_event_loop(&live, piece, 1);
         }
+        test_time_out(&live);
         free(live.bytes);
         free(large.bytes);
         free(constant.bytes);

@@ -17,6 +17,7 @@ struct place {
     int has_header; /* of a frame of the stream */
     int has_frame;
     int is_undecided; /* whether more bytes can make a frame */
+    size_t wasted;    /* how many bytes are read for a frame that isn't there */
     struct claxon_block block;
 };
 
@@ -39,9 +40,24 @@ static int has_format(const struct claxon_info *info, const uint8_t *header, con
     return !is_known(info) || (block->channels == info->channels && (code == 0 || depths[code] == info->bits_per_sample));
 }
 
+/* How many bytes a fault takes of those from the position on: with fewer the input ends. */
+static size_t length_of_fault(const struct stream *stream, size_t position) {
+    static int32_t samples[CLAXON_MAX_SAMPLES];
+    struct claxon_block block;
+    char error[1];
+    size_t fewer = 0, enough = stream->length - position;
+    while (enough - fewer > 1) {
+        size_t half = fewer + (enough - fewer) / 2, at = position;
+        uint32_t status = claxon_next_block(stream->bytes, position + half, &at, &stream->info, samples, CLAXON_MAX_SAMPLES,
+                                            &block, error, sizeof error);
+        *(status == CLAXON_INPUT_ENDS || status == CLAXON_NO_MORE ? &fewer : &enough) = half;
+    }
+    return enough;
+}
+
 static struct place place_at(const struct stream *stream, size_t position) {
     static int32_t samples[CLAXON_MAX_SAMPLES];
-    struct place place = {0, 0, 0, {0, 0, 0, 0, 0}};
+    struct place place = {0, 0, 0, 0, {0, 0, 0, 0, 0}};
     struct claxon_block block;
     char error[1];
     size_t at = position;
@@ -56,6 +72,9 @@ static struct place place_at(const struct stream *stream, size_t position) {
     }
     place.has_frame = place.has_header && status == CLAXON_OK;
     place.is_undecided = (!is_header || place.has_header) && (status == CLAXON_INPUT_ENDS || status == CLAXON_NO_MORE);
+    if (place.has_header && !place.has_frame) {
+        place.wasted = place.is_undecided ? stream->length - position : length_of_fault(stream, position);
+    }
     return place;
 }
 
@@ -160,6 +179,7 @@ static struct found find_place(const struct stream *stream, size_t from, uint64_
             return (struct found){CLAXON_OVER_BUDGET, at, budget, place->block};
         }
         budget -= place->has_header ? samples_of(&place->block) : 0;
+        budget -= budget < place->wasted ? budget : place->wasted;
         if (place->has_frame) {
             return (struct found){CLAXON_OK, at, budget, place->block};
         }
@@ -208,6 +228,8 @@ static void test_around(const struct stream *stream, size_t at) {
         test_find(stream, from, samples);
         test_find(stream, from, samples - 1);
         test_find(stream, from, 2 * samples - 1);
+        test_find(stream, from, 2 * samples + stream->places[at].wasted);
+        test_find(stream, from, 2 * samples + stream->places[at].wasted - 1);
     }
     for (size_t i = 0; i < 5; i++) {
         test_seek(stream, times[i]);
@@ -344,7 +366,7 @@ static void test_cuts(const uint8_t *bytes, size_t length) {
     for (stream.length = noise[1]; stream.length < noise[2]; stream.length++) {
         uint64_t left = find(&stream, noise[1], UINT64_MAX).left;
         expect_found(&stream, find(&stream, noise[1], UINT64_MAX), CLAXON_NO_MORE, noise[1], left, "find_frame");
-        expect(left == UINT64_MAX || left == UINT64_MAX - 8192, stream.name, "the budget");
+        expect(left == UINT64_MAX || left == UINT64_MAX - 8192 - (stream.length - noise[1]), stream.name, "the budget");
         expect_found(&stream, seek(&stream, 4096, UINT64_MAX), CLAXON_NO_MORE, UNTOUCHED, UINT64_MAX, "seek");
     }
     expect_found(&stream, find(&stream, noise[1], 8192), CLAXON_OK, noise[1], 0, "the whole frame");
@@ -357,15 +379,16 @@ static void test_cuts(const uint8_t *bytes, size_t length) {
     expect_found(&stream, seek(&stream, 0, 0), CLAXON_NO_MORE, UNTOUCHED, 0, "seek without bytes");
 }
 
-/* The first frame has a wrong CRC. */
+/* The first frame has a wrong CRC, which is found after its 2064 bytes. */
 static void test_budgets(uint8_t *bytes, size_t length) {
     struct stream stream = stream_of("a budget", bytes, length);
     bytes[noise[1] - 1] ^= 1;
     expect_found(&stream, find(&stream, 88, 0), CLAXON_OVER_BUDGET, 88, 0, "none");
     expect_found(&stream, find(&stream, 88, 8191), CLAXON_OVER_BUDGET, 88, 8191, "one less than a frame that isn't one");
     expect_found(&stream, find(&stream, 88, 8192), CLAXON_OVER_BUDGET, noise[1], 0, "of a frame that isn't one");
-    expect_found(&stream, find(&stream, 88, 16383), CLAXON_OVER_BUDGET, noise[1], 8191, "one less than two");
-    expect_found(&stream, find(&stream, 88, 16384), CLAXON_OK, noise[1], 0, "of two");
+    expect_found(&stream, find(&stream, 88, 9000), CLAXON_OVER_BUDGET, noise[1], 0, "of it and some of its bytes");
+    expect_found(&stream, find(&stream, 88, 18447), CLAXON_OVER_BUDGET, noise[1], 8191, "one less than two, and its bytes");
+    expect_found(&stream, find(&stream, 88, 18448), CLAXON_OK, noise[1], 0, "of two, and its bytes");
     expect_found(&stream, find(&stream, 89, 10000), CLAXON_OK, noise[1], 1808, "of one and more");
     expect_found(&stream, seek(&stream, 4095, 0), CLAXON_OVER_BUDGET, UNTOUCHED, 0, "of a seek, none");
     expect_found(&stream, seek(&stream, 4095, 8191), CLAXON_OVER_BUDGET, UNTOUCHED, 8191, "of a seek, one less");
@@ -428,7 +451,7 @@ static void test_nested(void) {
     expect_found(&stream, find(&stream, 17, 16), CLAXON_NO_MORE, 41, 16, "after them");
     expect(test_places(&stream, 16) == 2, stream.name, "the number of frames");
     outer[41] ^= 1;
-    expect_found(&stream, find(&stream, 0, 32), CLAXON_OK, 16, 0, "the inner one of a frame with a wrong CRC");
+    expect_found(&stream, find(&stream, 0, 32 + 42), CLAXON_OK, 16, 0, "the inner one of a frame with a wrong CRC");
     expect_found(&stream, seek(&stream, 3, 32), CLAXON_OK, 16, 32, "seek to the inner one");
 }
 

@@ -5,7 +5,7 @@
  * - What a stream gives is compared with what claxon_open and claxon_next_block give for the whole bytes: of files that are
  *   cut, or damaged in ROUNDS ways each, of heads that are made up, and of heads at each limit.
  * - Reading fails, memory is refused, a frame has no end.
- * - All but failing reads is tried with bytes that are handed in, too.
+ * - All but failing reads is tried with bytes that are handed in too, and with a callback that can't read each other time.
  *
  * With 0 ROUNDS small files are read alone, for tools that make it slow.
  * It is linked with --wrap for malloc and realloc, so that it can refuse memory and sees how much is asked for at once. */
@@ -13,6 +13,9 @@
 
 #include "faults.h"
 #include "known.h"
+
+/* How a stream gets its bytes: a callback reads them; they are handed in; or a callback that can't read each other time. */
+enum way { PULL, PUSH, PAUSING, WAYS };
 
 /* Bytes that are read in pieces. */
 
@@ -24,6 +27,7 @@ struct source {
     size_t fails_at; /* where reading fails */
     int has_ended;
     size_t calls; /* how many there were */
+    enum way way;
 };
 
 static size_t read_source(void *from, uint8_t *bytes, size_t length) {
@@ -31,6 +35,9 @@ static size_t read_source(void *from, uint8_t *bytes, size_t length) {
     size_t count = length < source->piece ? length : source->piece;
     source->calls++;
     expect(length > 0 && !source->has_ended, "read", "a call for nothing, or after the end");
+    if (source->way == PAUSING && source->calls % 2 == 1) {
+        return CLAXON_NOT_NOW;
+    }
     count = count < source->length - source->at ? count : source->length - source->at;
     if (source->at + count > source->fails_at) {
         count = source->fails_at - source->at;
@@ -48,13 +55,14 @@ static size_t read_source(void *from, uint8_t *bytes, size_t length) {
 }
 
 static struct source pieces_of(const uint8_t *bytes, size_t length, size_t piece) {
-    struct source source = {bytes, length, 0, piece, SIZE_MAX, 0, 0};
+    struct source source = {bytes, length, 0, piece, SIZE_MAX, 0, 0, PULL};
     return source;
 }
 
-/* Begins a stream that reads from the source, or to which its bytes are handed in. */
-static void begin(struct claxon_stream *stream, struct source *source, int is_push) {
-    if (is_push) {
+/* Begins a stream that gets the bytes of the source. */
+static void begin(struct claxon_stream *stream, struct source *source, enum way way) {
+    source->way = way;
+    if (way == PUSH) {
         claxon_stream_init_push(stream);
     } else {
         claxon_stream_init(stream, read_source, source);
@@ -68,7 +76,10 @@ static int feeds(struct claxon_stream *stream, struct source *source, uint32_t s
     if (status != CLAXON_NEED_MORE) {
         return 0;
     }
-    expect(!stream->read && !source->has_ended && !stream->error[0], "feed", "more is needed");
+    expect(source->way != PULL && !source->has_ended && !stream->error[0], "feed", "more is needed");
+    if (source->way == PAUSING) {
+        return 1;
+    }
     if (count > 0) {
         /* A copy, so that what is read after its end is seen. */
         uint8_t *piece = malloc(count);
@@ -121,14 +132,14 @@ static int is_same_info(const struct claxon_info *a, const struct claxon_info *b
 
 static void test_known(const struct known *known, const uint8_t *bytes, size_t length) {
     static const size_t pieces[] = {SIZE_MAX, 4099, 997, 61, 7, 1};
-    for (size_t i = 0; i < 24; i++) {
+    for (size_t i = 0; i < 36; i++) {
         struct claxon_stream stream;
-        struct source source = pieces_of(bytes, length, pieces[i / 4]);
+        struct source source = pieces_of(bytes, length, pieces[i / 6]);
         struct tally tally = no_samples;
         int planar = i % 2;
         char text[256];
         uint32_t status;
-        begin(&stream, &source, i / 2 % 2);
+        begin(&stream, &source, (enum way)(i / 2 % WAYS));
         while ((status = call(planar ? claxon_stream_next_block_planar : claxon_stream_next_block, &stream, &source)) ==
                CLAXON_OK) {
             size_t channels = stream.block.channels, duration = stream.block.duration;
@@ -143,6 +154,7 @@ static void test_known(const struct known *known, const uint8_t *bytes, size_t l
         expect((status == CLAXON_NO_MORE) == (stream.error[0] == 0), known->name, "a text at the end");
         expect(stream.position <= length && (status != CLAXON_NO_MORE || stream.position + 1 >= length), known->name,
                "the position at the end");
+        source.calls /= source.way == PAUSING ? 2 : 1;
         expect(source.piece != SIZE_MAX || source.calls <= 2 + 2 * length / 65536, known->name, "the number of reads");
         claxon_stream_free(&stream);
     }
@@ -223,14 +235,14 @@ static size_t compare_frames(const char *name, struct claxon_stream *stream, str
 }
 
 /* Returns the number of blocks, and leaves the text of the head's fault, or "", in `text`. */
-static size_t compare_form(const char *name, const uint8_t *bytes, size_t length, size_t piece, int is_push, char *text,
+static size_t compare_form(const char *name, const uint8_t *bytes, size_t length, size_t piece, enum way way, char *text,
                            size_t size) {
     struct claxon_stream stream;
     struct source source = pieces_of(bytes, length, piece);
     struct whole whole = {bytes, length, 0, {0}, {0}, ""};
     size_t blocks = 0;
     uint32_t status, expected = claxon_open(bytes, length, &whole.info, whole.error, sizeof whole.error);
-    begin(&stream, &source, is_push);
+    begin(&stream, &source, way);
     status = call(claxon_stream_open, &stream, &source);
     expect(status == expected, name, "the status of a head");
     snprintf(text, size, "%s", stream.error);
@@ -249,8 +261,9 @@ static size_t compare_form(const char *name, const uint8_t *bytes, size_t length
 }
 
 static size_t compare(const char *name, const uint8_t *bytes, size_t length, size_t piece, char *text, size_t size) {
-    compare_form(name, bytes, length, piece, 1, text, size);
-    return compare_form(name, bytes, length, piece, 0, text, size);
+    compare_form(name, bytes, length, piece, PUSH, text, size);
+    compare_form(name, bytes, length, piece, PAUSING, text, size);
+    return compare_form(name, bytes, length, piece, PULL, text, size);
 }
 
 static size_t any_piece(void) {
@@ -558,7 +571,7 @@ static void test_content(struct claxon_stream *stream, struct source *source, co
         got = claxon_stream_content(stream, content, piece);
         expect(memcmp(content, bytes + metadata->content + done, got) == 0, "a metadata block", "its content");
         done += got;
-    } while (got > 0 || (done < metadata->length && feeds(stream, source, stream->read ? CLAXON_OK : CLAXON_NEED_MORE)));
+    } while (got > 0 || (done < metadata->length && feeds(stream, source, source->way == PULL ? CLAXON_OK : CLAXON_NEED_MORE)));
     expect(done == metadata->length, "a metadata block", "the length of its content");
 }
 
@@ -588,13 +601,13 @@ static uint32_t next_metadata(struct claxon_stream *stream, struct source *sourc
 }
 
 /* Reads every `every`-th block, in pieces of `piece` bytes, and passes over the others. */
-static void test_walk(const struct made *made, size_t every, size_t piece, int is_push) {
+static void test_walk(const struct made *made, size_t every, size_t piece, enum way way) {
     struct claxon_stream stream;
     struct source source = pieces_of(made->bytes, made->length, 10000);
     struct claxon_metadata metadata, expected;
     size_t at = 4, i = 0;
     greatest_request = 0;
-    begin(&stream, &source, is_push);
+    begin(&stream, &source, way);
     test_tags(stream.comments, stream.comments_length, 0);
     while (next_metadata(&stream, &source, &metadata) == CLAXON_OK) {
         claxon_next_metadata(made->bytes, made->length, &at, &expected);
@@ -642,11 +655,11 @@ static void test_resync_in_content(const struct made *made) {
 static void test_metadata(void) {
     struct made made = make_pictures();
     test_resync_in_content(&made);
-    for (int is_push = 0; is_push <= 1; is_push++) {
-        test_walk(&made, 1, 4096, is_push);
-        test_walk(&made, 1, 4095, is_push);
-        test_walk(&made, 3, 1, is_push);
-        test_walk(&made, BLOCKS + 1, 1, is_push);
+    for (int way = PULL; way < WAYS; way++) {
+        test_walk(&made, 1, 4096, (enum way)way);
+        test_walk(&made, 1, 4095, (enum way)way);
+        test_walk(&made, 3, 1, (enum way)way);
+        test_walk(&made, BLOCKS + 1, 1, (enum way)way);
     }
     free(made.bytes);
 }
@@ -654,10 +667,10 @@ static void test_metadata(void) {
 /* Frames without a head, after a head that is damaged, and after other bytes. */
 
 static void test_resync_form(const char *name, const struct made *made, uint32_t head, uint64_t first, size_t count,
-                             int is_push) {
+                             enum way way) {
     struct claxon_stream stream;
     struct source source = pieces_of(made->bytes, made->length, 7);
-    begin(&stream, &source, is_push);
+    begin(&stream, &source, way);
     if (head != CLAXON_OK) {
         expect(call(claxon_stream_next_block, &stream, &source) == head, name, "the head");
     }
@@ -676,8 +689,9 @@ static void test_resync_form(const char *name, const struct made *made, uint32_t
 }
 
 static void test_resync_to(const char *name, const struct made *made, uint32_t head, uint64_t first, size_t count) {
-    test_resync_form(name, made, head, first, count, 0);
-    test_resync_form(name, made, head, first, count, 1);
+    test_resync_form(name, made, head, first, count, PULL);
+    test_resync_form(name, made, head, first, count, PUSH);
+    test_resync_form(name, made, head, first, count, PAUSING);
 }
 
 static void put_with_crc(struct made *made, const uint8_t *bytes, size_t length) {
@@ -692,7 +706,7 @@ static void test_resync_at(const char *name, const struct made *made, size_t at)
     for (size_t piece = 1; piece <= made->length; piece++) {
         struct claxon_stream stream;
         struct source source = pieces_of(made->bytes, made->length, piece);
-        begin(&stream, &source, piece % 2);
+        begin(&stream, &source, (enum way)(piece % WAYS));
         do {
             expect(call(claxon_stream_resync, &stream, &source) == CLAXON_OK, name, "resync");
         } while (stream.position < at && call(claxon_stream_next_block, &stream, &source) == CLAXON_OK);
@@ -712,10 +726,10 @@ static void test_resync_of_others(void) {
     put_with_crc(&made, two_channels, sizeof two_channels);
     put_with_crc(&made, eight_bits, sizeof eight_bits);
     put(&made, frame, sizeof frame);
-    for (int is_push = 0; is_push <= 1; is_push++) {
+    for (int way = PULL; way < WAYS; way++) {
         struct claxon_stream stream;
         struct source source = pieces_of(made.bytes, made.length, 5);
-        begin(&stream, &source, is_push);
+        begin(&stream, &source, (enum way)way);
         expect(call(claxon_stream_next_block, &stream, &source) == CLAXON_FORMAT_ERROR, "other frames", "no frame");
         expect(call(claxon_stream_resync, &stream, &source) == CLAXON_OK, "other frames", "resync");
         expect(stream.position == made.length - sizeof frame, "other frames", "the position after resync");
@@ -970,7 +984,7 @@ static void test_memory_of_feed(const char *name, const uint8_t *bytes, size_t l
 }
 
 /* A frame that has no end. What is asked for at once is at most `most` bytes. */
-static void test_endless_frame(int is_push, size_t most) {
+static void test_endless_frame(enum way way, size_t most) {
     struct claxon_stream stream;
     struct made made = {NULL, 0, 0};
     struct source source;
@@ -982,7 +996,7 @@ static void test_endless_frame(int is_push, size_t most) {
     put(&made, frame, sizeof frame);
     source = pieces_of(made.bytes, made.length, 65536);
     greatest_request = 0;
-    begin(&stream, &source, is_push);
+    begin(&stream, &source, way);
     expect(call(claxon_stream_next_block, &stream, &source) == CLAXON_FORMAT_ERROR, "an endless frame", "its status");
     expect(strcmp(stream.error, "frame longer than 16777215 bytes") == 0, "an endless frame", "its text");
     expect(stream.position == 4 + 38, "an endless frame", "its position");
@@ -1053,8 +1067,9 @@ int main(int argc, char **argv) {
         test_all_seen();
         test_metadata();
         test_failing_content();
-        test_endless_frame(0, CLAXON_MAX_FRAME_BYTES);
-        test_endless_frame(1, CLAXON_MAX_FRAME_BYTES + 65536);
+        test_endless_frame(PULL, CLAXON_MAX_FRAME_BYTES);
+        test_endless_frame(PUSH, CLAXON_MAX_FRAME_BYTES + 65536);
+        test_endless_frame(PAUSING, CLAXON_MAX_FRAME_BYTES);
         expect(damaged_blocks > 0, "stream", "no blocks of damaged files");
     }
     printf("stream: %d files, %zu blocks of damaged files, %d failures\n", files, damaged_blocks, failures);

@@ -4,7 +4,7 @@
  *   stream begins there. A stream is sought at the borders of all blocks, to and fro: with short reads, after other bytes in
  *   its source, with an end that isn't known, with a wrong number of samples in the head; and damaged in ROUNDS ways.
  * - Blocks of whole files are those at their times.
- * - Each read and each call that seeks fails in turn, and memory is refused in turn.
+ * - Each read and each call that seeks fails in turn, each read can't be served in turn, and memory is refused in turn.
  *
  * With 0 ROUNDS small files are read alone, for tools that make it slow. It is linked with --wrap for malloc and realloc. */
 #define _POSIX_C_SOURCE 200809L
@@ -25,6 +25,7 @@ struct source {
     int knows_end;
     size_t calls, failing_call; /* this one fails, if it isn't 0 */
     const char *failure;
+    int is_pausing; /* a read that fails does so just now */
 };
 
 static int fails(struct source *source, const char *failure) {
@@ -39,7 +40,7 @@ static size_t read_source(void *from, uint8_t *bytes, size_t length) {
     struct source *source = from;
     size_t end = source->origin + source->length, count = source->at < end ? end - source->at : 0;
     if (fails(source, "reading failed")) {
-        return (size_t)-1;
+        return source->is_pausing ? CLAXON_NOT_NOW : (size_t)-1;
     }
     count = count < length ? count : length;
     count = count < source->piece ? count : source->piece;
@@ -63,7 +64,7 @@ static int64_t seek_source(void *from, int64_t offset, int whence) {
 
 static struct source any_source(const uint8_t *bytes, size_t length) {
     static const size_t pieces[] = {SIZE_MAX, SIZE_MAX, 10000, 1000, 61, 1};
-    struct source source = {bytes, length, 0, 0, 0, 0, 0, 0, NULL};
+    struct source source = {bytes, length, 0, 0, 0, 0, 0, 0, NULL, 0};
     source.origin = source.at = below(2) ? below(100000) : 0;
     source.piece = pieces[below(6)];
     source.knows_end = below(3) > 0;
@@ -257,7 +258,7 @@ static void test_file(const char *name, const uint8_t *bytes, size_t length, uns
 /* A file whose blocks follow one another: each block by its number, from each sample at its borders. */
 static void test_times(const char *name, const uint8_t *bytes, size_t length) {
     struct claxon_stream walk, stream;
-    struct source walked = {bytes, length, 0, 0, SIZE_MAX, 1, 0, 0, NULL}, source = walked;
+    struct source walked = {bytes, length, 0, 0, SIZE_MAX, 1, 0, 0, NULL, 0}, source = walked;
     uint64_t time = 0, sample;
     claxon_stream_init(&walk, read_source, &walked);
     claxon_stream_init(&stream, read_source, &source);
@@ -290,7 +291,7 @@ struct attempt {
 };
 
 static void begin(struct attempt *attempt, const uint8_t *bytes, size_t length, int knows_end) {
-    struct source source = {bytes, length, 5, 5, 3000, knows_end, 0, 0, NULL};
+    struct source source = {bytes, length, 5, 5, 3000, knows_end, 0, 0, NULL, 0};
     attempt->source = source;
     claxon_stream_init(&attempt->stream, read_source, &attempt->source);
     claxon_stream_set_seek(&attempt->stream, seek_source);
@@ -334,6 +335,25 @@ static int test_failing_call(const char *name, const uint8_t *bytes, size_t leng
     return was_called;
 }
 
+/* A read that can't be served: the seek is repeated, and no block is given before. Returns whether there was such a read, or a
+ * call that seeks and fails. */
+static int test_pausing_call(const char *name, const uint8_t *bytes, size_t length, uint64_t sample, size_t call) {
+    struct attempt attempt;
+    struct claxon_stream *stream = &attempt.stream;
+    uint32_t status;
+    begin(&attempt, bytes, length, 1);
+    attempt.source.is_pausing = 1;
+    attempt.source.failing_call = call;
+    status = claxon_stream_seek(stream, sample);
+    if (attempt.source.failure && strcmp(attempt.source.failure, "reading failed") == 0) {
+        expect(status == CLAXON_NEED_MORE && !stream->error[0], name, "the status of a seek that can't be served");
+        expect(claxon_stream_next_block(stream) == CLAXON_READ_FAILED, name, "a block after a seek that can't be served");
+        expect_sample(stream, sample, name);
+    }
+    claxon_stream_free(stream);
+    return attempt.source.failure != NULL;
+}
+
 static int test_refused(const char *name, const uint8_t *bytes, size_t length, uint64_t sample, size_t request) {
     struct attempt attempt;
     struct claxon_stream *stream = &attempt.stream;
@@ -356,12 +376,15 @@ static int test_refused(const char *name, const uint8_t *bytes, size_t length, u
 }
 
 static void test_failures(const char *name, const uint8_t *bytes, size_t length, uint64_t sample) {
-    size_t calls[2] = {1, 1}, request = 1;
+    size_t calls[2] = {1, 1}, request = 1, pause = 1;
     for (int knows_end = 0; knows_end <= 1; knows_end++) {
         while (test_failing_call(name, bytes, length, sample, calls[knows_end], knows_end)) {
             calls[knows_end]++;
         }
         expect(calls[knows_end] > 5, name, "the number of calls that failed");
+    }
+    while (test_pausing_call(name, bytes, length, sample, pause)) {
+        pause++;
     }
     while (test_refused(name, bytes, length, sample, request)) {
         request++;
@@ -387,7 +410,7 @@ static void test_failures_of_search(const char *name, const uint8_t *bytes, size
 static void test_unsupported(const char *name, const uint8_t *bytes, size_t length) {
     for (int is_push = 0; is_push <= 1; is_push++) {
         struct claxon_stream stream;
-        struct source source = {bytes, length, 0, 0, SIZE_MAX, 1, 0, 0, NULL};
+        struct source source = {bytes, length, 0, 0, SIZE_MAX, 1, 0, 0, NULL, 0};
         if (is_push) {
             claxon_stream_init_push(&stream);
             claxon_stream_set_seek(&stream, seek_source);
@@ -407,7 +430,7 @@ static void test_unsupported(const char *name, const uint8_t *bytes, size_t leng
 /* A head with a fault, which seek returns; after resync any frame is sought. */
 static void test_damaged_head(const char *name, uint8_t *bytes, size_t length) {
     struct claxon_stream stream;
-    struct source source = {bytes, length, 0, 0, SIZE_MAX, 1, 0, 0, NULL};
+    struct source source = {bytes, length, 0, 0, SIZE_MAX, 1, 0, 0, NULL, 0};
     bytes[0] ^= 1;
     claxon_stream_init(&stream, read_source, &source);
     claxon_stream_set_seek(&stream, seek_source);
