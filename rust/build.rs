@@ -65,10 +65,29 @@ fn has_library(folder: &Path) -> bool {
     folder.join(STATIC).exists() || folder.join(SHARED).exists()
 }
 
+// What pkg-config says of the library.
+fn pkg_config(option: &str) -> Option<String> {
+    let output = Command::new("pkg-config").args([option, "claxon"]).output().ok()?;
+    let text = String::from_utf8(output.stdout).ok()?.trim().to_string();
+    Some(text).filter(|_| output.status.success())
+}
+
+// A library of another interface is refused here. Others are asked for their version when a program runs.
 fn installed() -> Option<PathBuf> {
-    let output = Command::new("pkg-config").args(["--variable=libdir", "claxon"]).output().ok()?;
-    let folder = PathBuf::from(String::from_utf8(output.stdout).ok()?.trim());
-    Some(folder).filter(|folder| output.status.success() && has_library(folder))
+    let folder = PathBuf::from(pkg_config("--variable=libdir")?);
+    if !has_library(&folder) {
+        return None;
+    }
+    let version = pkg_config("--modversion")?;
+    let interface = AT_RUN_TIME.trim_start_matches("libclaxon.so.");
+    if !version.starts_with(&format!("{interface}.")) {
+        fail(&format!(
+            "claxon: pkg-config finds version {version} of the library for C in {}, and this crate is for version \
+             {interface}: CLAXON_LIB_DIR=FOLDER names another one",
+            folder.display()
+        ));
+    }
+    Some(folder)
 }
 
 fn link(folder: &Path) {

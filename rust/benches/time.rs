@@ -40,10 +40,10 @@ fn program() -> PathBuf {
 }
 
 /// The least time of a round, in nanoseconds.
-fn least<T>(mut run: impl FnMut() -> T) -> f64 {
+fn least(mut run: impl FnMut()) -> f64 {
     let time = |_| {
         let start = Instant::now();
-        std::hint::black_box(run());
+        run();
         start.elapsed().as_nanos() as f64
     };
     (0..ROUNDS).map(time).fold(f64::INFINITY, f64::min)
@@ -53,15 +53,15 @@ fn program_time(path: &Path) -> Option<f64> {
     let mut command = Command::new(program());
     command.arg(path).stdout(Stdio::null());
     command.status().ok().filter(|status| status.success())?;
-    Some(least(|| command.status()))
+    Some(least(|| assert!(command.status().is_ok())))
 }
 
 fn print_times(path: &Path) -> Result<()> {
     let (count, sum) = sum_of_blocks(path)?;
-    assert_eq!(sum_of_samples(path)?, (count, sum));
+    let check = |found: Result<(u64, i64)>| assert_eq!(found.ok(), Some((count, sum)));
     let per_sample = |time: f64| format!("{:.2}", time / count as f64);
-    let blocks = per_sample(least(|| sum_of_blocks(path)));
-    let samples = per_sample(least(|| sum_of_samples(path)));
+    let blocks = per_sample(least(|| check(sum_of_blocks(path))));
+    let samples = per_sample(least(|| check(sum_of_samples(path))));
     let program = program_time(path).map_or("not built".to_string(), per_sample);
     println!("| {} | {count} | {blocks} | {samples} | {program} |", path.display());
     Ok(())

@@ -32,7 +32,7 @@ pub fn write_wav<R: Read, W: Write + Seek>(flac: &mut FlacReader<R>, output: &mu
 }
 
 fn sample_size(bits_per_sample: u32) -> u32 {
-    bits_per_sample.div_ceil(8)
+    (bits_per_sample + 7) / 8
 }
 
 /// The header of `length` bytes of samples. For more than two channels it leaves open which speaker each is for.
@@ -70,9 +70,8 @@ fn write_block<W: Write>(block: &Block, bits_per_sample: u32, output: &mut W) ->
 #[allow(dead_code)] // A test has the calls above alone.
 fn main() -> Result<()> {
     let words: Vec<_> = std::env::args_os().skip(1).collect();
-    let [flac, wav] = &words[..] else {
-        return Err("usage: wav IN.flac OUT.wav".into());
-    };
-    let mut flac = FlacReader::open(flac)?;
-    write_wav(&mut flac, &mut BufWriter::new(File::create(wav)?))
+    match &words[..] {
+        [flac, wav] => write_wav(&mut FlacReader::open(flac)?, &mut BufWriter::new(File::create(wav)?)),
+        _ => Err("usage: wav IN.flac OUT.wav".into()),
+    }
 }

@@ -76,6 +76,7 @@ impl From<Failure> for Error {
             ffi::FORMAT_ERROR => Error::FormatError(kept(&failure.text)),
             ffi::UNSUPPORTED => Error::Unsupported(kept(&failure.text)),
             ffi::OUT_OF_MEMORY => Error::IoError(io::ErrorKind::OutOfMemory.into()),
+            ffi::OTHER_VERSION => Error::IoError(io::Error::new(io::ErrorKind::Unsupported, kept(&failure.text))),
             _ => Error::IoError(end_of_input()),
         }
     }
@@ -126,5 +127,6 @@ mod tests {
         assert_eq!(kind_of(ffi::OUT_OF_MEMORY), io::ErrorKind::OutOfMemory);
         assert_eq!(kind_of(ffi::INPUT_ENDS), io::ErrorKind::UnexpectedEof);
         assert_eq!(kind_of(ffi::NO_MORE), io::ErrorKind::UnexpectedEof);
+        assert_eq!(kind_of(ffi::OTHER_VERSION), io::ErrorKind::Unsupported);
     }
 }

@@ -5,6 +5,7 @@
 //! mutably, so that nothing else of the call overlaps it. The calls keep no pointer, and are safe for any bytes.
 use std::mem::size_of;
 use std::ops::Range;
+use std::sync::atomic::{AtomicBool, Ordering};
 
 pub const OK: u32 = 0;
 pub const FORMAT_ERROR: u32 = 1;
@@ -15,9 +16,11 @@ pub const NO_MORE: u32 = 5;
 pub const BUFFER_TOO_SMALL: u32 = 6;
 pub const OVER_BUDGET: u32 = 7;
 
-/// The version of the interface that is declared here.
-#[cfg(test)]
+/// The version of the interface that is declared here: 0.3.0. Other last two digits are the same interface.
 pub const VERSION: u32 = 300;
+
+/// No status of the library: it has another interface.
+pub const OTHER_VERSION: u32 = u32::MAX;
 
 /// The maximum number of bytes of a frame that a streaminfo can give.
 pub const MAX_FRAME_BYTES: usize = 16_777_215;
@@ -87,7 +90,6 @@ pub type Text = [u8; 112];
 const NO_TEXT: Text = [0; 112];
 
 extern "C" {
-    #[cfg(test)]
     fn claxon_version() -> u32;
     fn claxon_open(bytes: *const u8, length: usize, info: *mut Info, error: *mut u8, error_size: usize) -> u32;
     fn claxon_streaminfo(content: *const u8, length: usize, info: *mut Info, error: *mut u8, error_size: usize) -> u32;
@@ -146,15 +148,32 @@ fn checked<T>(status: u32, found: T, text: Text) -> Result<T, Failure> {
     }
 }
 
-/// The version of the library.
-#[cfg(test)]
-pub fn version() -> u32 {
-    // SAFETY: the call has no argument.
-    unsafe { claxon_version() }
+/// Fails where the library has another interface than is declared here. Calls that are given structs come after it.
+fn check_library() -> Result<(), Failure> {
+    static IS_CHECKED: AtomicBool = AtomicBool::new(false);
+    if !IS_CHECKED.load(Ordering::Relaxed) {
+        // SAFETY: the call has no argument.
+        check_version(unsafe { claxon_version() })?;
+        IS_CHECKED.store(true, Ordering::Relaxed);
+    }
+    Ok(())
+}
+
+fn check_version(version: u32) -> Result<(), Failure> {
+    if version / 100 == VERSION / 100 {
+        return Ok(());
+    }
+    let interface = |version: u32| format!("{}.{}", version / 10_000, version / 100 % 100);
+    let (found, patch, needed) = (interface(version), version % 100, interface(VERSION));
+    let reason = format!("the library libclaxon has version {found}.{patch}, and this crate is for version {needed}");
+    let mut text = NO_TEXT;
+    text[..reason.len()].copy_from_slice(reason.as_bytes());
+    Err(Failure { status: OTHER_VERSION, text })
 }
 
 /// The head that the bytes begin with.
 pub fn open(bytes: &[u8]) -> Result<Info, Failure> {
+    check_library()?;
     let (mut info, mut text) = (Info::default(), NO_TEXT);
     // SAFETY: as the module says.
     let status = unsafe { claxon_open(bytes.as_ptr(), bytes.len(), &mut info, text.as_mut_ptr(), text.len()) };
@@ -163,6 +182,7 @@ pub fn open(bytes: &[u8]) -> Result<Info, Failure> {
 
 /// The content of a streaminfo block.
 pub fn streaminfo(content: &[u8]) -> Result<Info, Failure> {
+    check_library()?;
     let (mut info, mut text) = (Info::default(), NO_TEXT);
     // SAFETY: as the module says.
     let status =
@@ -172,6 +192,7 @@ pub fn streaminfo(content: &[u8]) -> Result<Info, Failure> {
 
 /// Where the vendor string is in the whole content of a block of Vorbis comments, and the number of tags.
 pub fn vendor(content: &[u8]) -> Result<(Range<usize>, usize), Failure> {
+    check_library()?;
     let (mut at, mut length, mut tags, mut text) = (0, 0, 0, NO_TEXT);
     // SAFETY: as the module says.
     let status = unsafe {
@@ -182,6 +203,7 @@ pub fn vendor(content: &[u8]) -> Result<(Range<usize>, usize), Failure> {
 
 /// Where the name and the value of the next tag are in that content. `at` is 0 at first.
 pub fn next_tag(content: &[u8], at: &mut usize) -> Result<(Range<usize>, Range<usize>), Failure> {
+    check_library()?;
     let (mut tag, mut text) = (Tag::default(), NO_TEXT);
     // SAFETY: as the module says.
     let status =
@@ -205,6 +227,9 @@ pub enum NextBlock {
 
 /// Decodes the frame that the bytes begin with.
 pub fn next_block(bytes: &[u8], info: &Info, samples: &mut [i32]) -> NextBlock {
+    if let Err(failure) = check_library() {
+        return NextBlock::Failed(failure);
+    }
     let (mut length, mut block, mut text) = (0, Block::default(), NO_TEXT);
     // SAFETY: as the module says.
     let status = unsafe {
@@ -247,6 +272,9 @@ pub enum Search {
 
 /// Searches for the first frame. The blocks whose headers are found on the way have no more samples than the budget.
 pub fn find_frame(bytes: &[u8], info: &Info, mut budget: u64) -> Search {
+    if let Err(failure) = check_library() {
+        return Search::Failed(failure);
+    }
     let (mut at, mut block) = (0, Block::default());
     // SAFETY: as the module says.
     let status = unsafe { claxon_find_frame(bytes.as_ptr(), bytes.len(), &mut at, info, &mut budget, &mut block) };
@@ -266,11 +294,12 @@ pub fn crc16(crc: u16, bytes: &[u8]) -> u16 {
 
 impl Md5 {
     /// A sum of no samples yet.
-    pub fn start() -> Md5 {
+    pub fn start() -> Result<Md5, Failure> {
+        check_library()?;
         let mut md5 = Md5 { state: [0; 4], length: 0, buffer: [0; 64] };
         // SAFETY: as the module says.
         unsafe { claxon_md5_start(&mut md5) };
-        md5
+        Ok(md5)
     }
 
     /// Hashes interleaved samples of 1 to 32 bits.
@@ -293,27 +322,23 @@ impl Md5 {
 mod tests {
     use super::*;
 
-    #[test]
-    fn the_library_has_the_version_that_is_declared_here() {
-        assert_eq!(version(), VERSION);
-    }
-
-    // The number that `claxon.h` has after these words.
-    fn number_in_header(words: &str) -> usize {
-        let (_, rest) = include_str!("../../c/claxon.h").split_once(words).unwrap();
-        let number = rest.split(|letter: char| !letter.is_ascii_digit()).next().unwrap();
-        number.parse().unwrap()
+    fn said_of(version: u32) -> Option<String> {
+        let failure = check_version(version).err()?;
+        assert_eq!(failure.status, OTHER_VERSION);
+        Some(String::from_utf8_lossy(&failure.text).trim_end_matches('\0').to_string())
     }
 
     #[test]
-    fn the_header_has_the_numbers_that_are_declared_here() {
-        assert_eq!(number_in_header("#define CLAXON_VERSION "), VERSION as usize);
-        assert_eq!(number_in_header("#define CLAXON_MAX_FRAME_BYTES "), MAX_FRAME_BYTES);
-        let names = ["OK", "FORMAT_ERROR", "UNSUPPORTED", "INPUT_ENDS", "OUT_OF_MEMORY", "NO_MORE"];
-        let numbers = [OK, FORMAT_ERROR, UNSUPPORTED, INPUT_ENDS, OUT_OF_MEMORY, NO_MORE];
-        assert_eq!(names.map(|name| number_in_header(&format!(" CLAXON_{name} = ")) as u32), numbers);
-        let names = ["BUFFER_TOO_SMALL", "OVER_BUDGET"];
-        let numbers = [BUFFER_TOO_SMALL, OVER_BUDGET];
-        assert_eq!(names.map(|name| number_in_header(&format!(" CLAXON_{name} = ")) as u32), numbers);
+    fn the_library_has_the_interface_that_is_declared_here() {
+        assert!(check_library().is_ok());
+    }
+
+    #[test]
+    fn other_versions() {
+        assert_eq!((said_of(300), said_of(399)), (None, None));
+        for (version, text) in [(299, "0.2.99"), (400, "0.4.0"), (10_300, "1.3.0"), (u32::MAX, "429496.72.95")] {
+            let expected = format!("the library libclaxon has version {text}, and this crate is for version 0.3");
+            assert_eq!(said_of(version), Some(expected));
+        }
     }
 }

@@ -15,8 +15,9 @@ pub(crate) fn read_head<R: ReadBytes>(
 ) -> Result<(StreamInfo, Option<VorbisComment>)> {
     read_marker(input)?;
     let header = BlockHeader::read(input)?;
-    let Content::StreamInfo(streaminfo) = Content::read(input, header.block_type, header.length)? else {
-        return format_error("streaminfo block missing");
+    let streaminfo = match Content::read(input, header.block_type, header.length)? {
+        Content::StreamInfo(streaminfo) => streaminfo,
+        Content::VorbisComment(_) | Content::Skipped => return format_error("streaminfo block missing"),
     };
     if header.is_last || (options.metadata_only && !options.read_vorbis_comment) {
         return Ok((streaminfo, None));

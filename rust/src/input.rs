@@ -240,9 +240,10 @@ pub trait ReadBytes: Source {
     /// Reads a big-endian number of 16 bits, or consumes what is left and returns `None` where that is fewer than two
     /// bytes.
     fn read_be_u16_or_eof(&mut self) -> io::Result<Option<u16>> {
-        let Some(high) = self.read_u8_or_eof()? else { return Ok(None) };
-        let low = self.read_u8_or_eof()?;
-        Ok(low.map(|low| u16::from_be_bytes([high, low])))
+        match self.read_u8_or_eof()? {
+            Some(high) => Ok(self.read_u8_or_eof()?.map(|low| u16::from_be_bytes([high, low]))),
+            None => Ok(None),
+        }
     }
 
     /// Reads a big-endian number of 24 bits.

@@ -10,7 +10,7 @@
 //!
 //! ```
 //! # fn main() -> claxon::Result<()> {
-//! let mut flac = claxon::FlacReader::open("../examples/worked.flac")?;
+//! let mut flac = claxon::FlacReader::open("examples/tagged.flac")?;
 //! let (mut sum, mut count) = (0.0, 0.0);
 //! for sample in flac.samples() {
 //!     sum += f64::from(sample?).powi(2);
@@ -26,7 +26,7 @@
 //! ```
 //! # fn main() -> claxon::Result<()> {
 //! # let mut peak = 0;
-//! let mut flac = claxon::FlacReader::open("../examples/worked.flac")?;
+//! let mut flac = claxon::FlacReader::open("examples/tagged.flac")?;
 //! let mut blocks = flac.blocks();
 //! let mut buffer = Vec::new();
 //! while let Some(block) = blocks.read_next_or_eof(buffer)? {
@@ -44,7 +44,7 @@
 //! ```
 //! # fn main() -> claxon::Result<()> {
 //! let options = claxon::FlacReaderOptions { metadata_only: true, read_vorbis_comment: true };
-//! let flac = claxon::FlacReader::open_ext("../examples/worked.flac", options)?;
+//! let flac = claxon::FlacReader::open_ext("examples/tagged.flac", options)?;
 //! for artist in flac.get_tag("artist") {
 //!     println!("{artist}");
 //! }
@@ -192,6 +192,18 @@ impl<R: Read> FlacReader<R> {
         FlacSamples::new(FrameReader::with_streaminfo(&mut self.input, self.streaminfo))
     }
 
+    /// As [`FlacReader::samples`], by an iterator that owns the reader: so it can be kept, or go to another thread.
+    ///
+    /// After [`FlacReader::seek`] it begins with the first sample of the block.
+    ///
+    /// # Panics
+    ///
+    /// Where the reader was made with `metadata_only`.
+    pub fn into_samples(self) -> FlacSamples<BufferedReader<R>> {
+        assert!(!self.metadata_only, "a reader that was made with metadata_only has no into_samples()");
+        FlacSamples::new(FrameReader::with_streaminfo(self.input, self.streaminfo))
+    }
+
     /// The wrapped reader. Buffered bytes are lost.
     pub fn into_inner(self) -> R {
         self.input.into_inner()
@@ -237,10 +249,14 @@ impl<R: Read + Seek> FlacReader<R> {
     ///
     /// Where the reader was made with `metadata_only`.
     pub fn samples_from(&mut self, sample: u64) -> Result<Option<FlacSamples<&mut BufferedReader<R>>>> {
-        let Some(before) = self.seek(sample)? else { return Ok(None) };
-        let mut samples = self.samples();
-        samples.pass(before)?;
-        Ok(Some(samples))
+        match self.seek(sample)? {
+            Some(before) => {
+                let mut samples = self.samples();
+                samples.pass(before)?;
+                Ok(Some(samples))
+            }
+            None => Ok(None),
+        }
     }
 }
 

@@ -1,4 +1,5 @@
 //! The MD5 sum of samples.
+use crate::error::Error;
 use crate::ffi;
 use crate::frame::Block;
 
@@ -8,7 +9,7 @@ use crate::frame::Block;
 ///
 /// ```
 /// # fn main() -> claxon::Result<()> {
-/// let mut flac = claxon::FlacReader::open("../examples/tagged.flac")?;
+/// let mut flac = claxon::FlacReader::open("examples/tagged.flac")?;
 /// let streaminfo = flac.streaminfo();
 /// let mut md5 = claxon::Md5::new(streaminfo.bits_per_sample);
 /// let mut blocks = flac.blocks();
@@ -34,10 +35,11 @@ impl Md5 {
     ///
     /// # Panics
     ///
-    /// Where there aren't 1 to 32 bits per sample.
+    /// Where there aren't 1 to 32 bits per sample, and where the library has another interface than this crate is for.
     pub fn new(bits_per_sample: u32) -> Md5 {
         assert!((1..=32).contains(&bits_per_sample), "an MD5 sum is of samples of 1 to 32 bits");
-        Md5 { hasher: ffi::Md5::start(), bits_per_sample, interleaved: Vec::new() }
+        let hasher = ffi::Md5::start().unwrap_or_else(|failure| panic!("{}", Error::from(failure)));
+        Md5 { hasher, bits_per_sample, interleaved: Vec::new() }
     }
 
     /// Hashes interleaved samples, after those that were hashed before.

@@ -281,10 +281,10 @@ fn check_beginning(block_type: u8, length: u32, content: &[u8]) -> Result<()> {
 // Whether it refuses the block by its type and length, before anything of it is read. A caller can pass types that no
 // header has: they are reserved. A length that no header can give is refused as the greatest one is.
 fn check_header(block_type: u8, length: u32) -> Result<()> {
-    match block_type {
-        ..=MAX_TYPE => check_beginning(block_type, length, &[]),
-        _ => Ok(()),
+    if block_type <= MAX_TYPE {
+        check_beginning(block_type, length, &[])?;
     }
+    Ok(())
 }
 
 fn read_streaminfo<R: ReadBytes>(input: &mut R) -> Result<StreamInfo> {

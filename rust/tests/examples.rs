@@ -1,4 +1,4 @@
-//! The example that writes WAV files.
+//! The example that writes WAV files, and the file of the documentation's examples.
 mod common;
 
 #[path = "../examples/wav.rs"]
@@ -6,7 +6,9 @@ mod wav;
 
 use claxon::FlacReader;
 use common::*;
+use std::fs;
 use std::io::Cursor;
+use std::path::Path;
 
 fn wav_of(stream: &[u8]) -> Vec<u8> {
     let mut output = Cursor::new(Vec::new());
@@ -39,4 +41,12 @@ fn a_frame_of_other_channels() {
     let mut flac = FlacReader::new(&file[..]).unwrap();
     let error = wav::write_wav(&mut flac, &mut Cursor::new(Vec::new())).unwrap_err();
     assert_eq!(error.to_string(), "the number of channels changes");
+}
+
+/// A package has no other file of the repository, so the crate has a copy of one.
+#[test]
+fn the_file_of_the_documentation() {
+    let folder = Path::new(env!("CARGO_MANIFEST_DIR"));
+    let read = |name: &str| fs::read(folder.join(name)).unwrap();
+    assert!(read("examples/tagged.flac") == read("../examples/tagged.flac"));
 }

@@ -224,7 +224,7 @@ fn readers() {
     for _ in 0..2 * end {
         last.push(match frames.read_next_or_eof(Vec::new()) {
             Err(Error::FormatError(_)) => break,
-            result => result.is_ok_and(|block| block.is_some()),
+            result => matches!(result, Ok(Some(_))),
         });
     }
     assert_eq!(last.iter().filter(|is_block| **is_block).count(), 3);

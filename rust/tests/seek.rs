@@ -5,9 +5,10 @@ use claxon::frame::{FrameReader, FrameResult};
 use claxon::{Block, Error, FlacReader};
 use common::made::*;
 use common::*;
+use std::ffi::OsStr;
 use std::fs::{self, File};
 use std::io::{self, Cursor, Read, Seek, SeekFrom, Write};
-use std::os::fd::OwnedFd;
+use std::os::unix::io::OwnedFd;
 use std::os::unix::net::UnixStream;
 use std::path::Path;
 use std::time::Instant;
@@ -33,10 +34,13 @@ fn files() -> Vec<(Vec<u8>, Vec<Block>)> {
     let folders = [cases().join("data"), Path::new(env!("CARGO_MANIFEST_DIR")).join("../examples")];
     let paths = folders.iter().flat_map(|folder| fs::read_dir(folder).unwrap()).map(|entry| entry.unwrap().path());
     let mut found = Vec::new();
-    for path in paths.filter(|path| path.extension().is_some_and(|extension| extension == "flac")) {
+    for path in paths.filter(|path| path.extension() == Some(OsStr::new("flac"))) {
         let stream = fs::read(&path).unwrap();
-        let Ok(flac) = FlacReader::new(&stream[..]) else { continue };
-        let ((blocks, is_whole), channels) = (walk(&stream), flac.streaminfo().channels);
+        let channels = match FlacReader::new(&stream[..]) {
+            Ok(flac) => flac.streaminfo().channels,
+            Err(_) => continue,
+        };
+        let (blocks, is_whole) = walk(&stream);
         let mut end = 0;
         let mut follows = |block: &Block| {
             let follows = block.time() == end && block.channels() == channels;

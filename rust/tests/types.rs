@@ -130,13 +130,14 @@ fn misuse_panics() {
     let mut flac = FlacReader::new_ext(&stream[..], TAGS_ONLY).unwrap();
     assert!(panics(|| _ = flac.blocks()));
     assert!(panics(|| _ = flac.samples()));
+    assert!(panics(|| _ = flac.into_samples()));
 }
 
 #[test]
 fn errors() {
     let format = Error::FormatError("invalid sample rate");
     let unsupported = Error::Unsupported("invalid sample rate");
-    let io = || Error::from(io::Error::other("no disk"));
+    let io = || Error::from(io::Error::new(io::ErrorKind::Other, "no disk"));
     assert_eq!(format, Error::FormatError("invalid sample rate"));
     assert_ne!(format, Error::FormatError("invalid sample"));
     assert_ne!(format, unsupported);
@@ -184,4 +185,23 @@ fn readers_may_go_to_other_threads() {
     fn is_send<T: Send>(_: &T) {}
     is_send(&FlacReader::new(Cursor::new(bytes(HEAD))).unwrap());
     is_send(&Block::empty());
+}
+
+/// From the start, after a block, and after a seek; in another thread.
+#[test]
+fn samples_that_own_the_reader() {
+    let file = bytes_of("quiet_noise.flac");
+    let (all, _) = decode(&file[..]);
+    let open = || FlacReader::new(Cursor::new(file.clone())).unwrap();
+    let rest_of = |flac: FlacReader<Cursor<Vec<u8>>>| {
+        let samples = flac.into_samples();
+        std::thread::spawn(move || samples.map(Result::unwrap).collect::<Vec<_>>()).join().unwrap()
+    };
+    assert!(rest_of(open()) == all);
+    let mut flac = open();
+    let block = flac.blocks().read_next_or_eof(Vec::new()).unwrap().unwrap();
+    assert!(rest_of(flac) == all[block.len() as usize..]);
+    let mut flac = open();
+    let before = flac.seek(10_000).unwrap().unwrap();
+    assert!(rest_of(flac) == all[2 * (10_000 - before as usize)..]);
 }
