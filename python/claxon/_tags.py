@@ -1,10 +1,5 @@
 """The tags of a stream."""
-from typing import Dict, Iterator, List, Mapping
-
-
-def _key(name: str) -> str:
-    """The name as it is kept. Only ASCII has a case here: others aren't names."""
-    return name.upper() if name.isascii() else name
+from typing import Dict, Iterator, List, Mapping, Optional
 
 
 class Tags(Mapping[str, str]):
@@ -19,10 +14,18 @@ class Tags(Mapping[str, str]):
         self._values = values
 
     def __getitem__(self, name: str) -> str:
-        return self._values[_key(name)][0]
+        values = self._found(name)
+        if values is None:
+            raise KeyError(name)
+        return values[0]
 
     def __contains__(self, name: object) -> bool:
-        return isinstance(name, str) and _key(name) in self._values
+        return self._found(name) is not None
+
+    def _found(self, name: object) -> Optional[List[str]]:
+        """The values of a name. Only ASCII has a case here: others aren't names."""
+        is_name = isinstance(name, str) and name.isascii()
+        return self._values.get(str(name).upper()) if is_name else None
 
     def __iter__(self) -> Iterator[str]:
         return iter(self._values)
@@ -32,7 +35,7 @@ class Tags(Mapping[str, str]):
 
     def get_all(self, name: str) -> List[str]:
         """All values of a name, in the order of the stream; none where it isn't there."""
-        return list(self._values.get(_key(name), ()))
+        return list(self._found(name) or ())
 
     def __eq__(self, other: object) -> bool:
         if isinstance(other, Tags):

@@ -44,7 +44,7 @@ class Files(unittest.TestCase):
         for case in cases():
             with self.subTest(case.name):
                 try:
-                    samples, rate = claxon.read(DATA / case.name)
+                    samples, rate = claxon.read_arrays(DATA / case.name)
                 except claxon.Error as error:
                     self.expect_refused(case, error)
                     continue
@@ -60,20 +60,29 @@ class Files(unittest.TestCase):
         self.assertGreater(tried, 5)
 
     def expect_refused(self, case: Case, error: claxon.Error) -> None:
-        """The small files have random streaminfos, and blocks of other numbers of channels."""
+        """The small files have random streaminfos and times, and blocks of other numbers of
+        channels.
+        """
         if result_of(error) == case.result:
             return
         with claxon.Flac(DATA / case.name) as flac:
-            counts = []
+            counts, ends = [], [0]
+            is_gap = False
             try:
                 for block in flac.blocks():
+                    is_gap |= block.time != ends[-1]
+                    ends.append(block.time + block.duration)
                     counts.append((block.channels, block.duration))
             except claxon.Error:
                 pass
-        if {channels for channels, _ in counts} != {flac.info.channels}:
-            self.assertIsInstance(error, claxon.Unsupported)
-            self.assertEqual(str(error), "the number of channels changes within the stream")
+        is_changed = {channels for channels, _ in counts} != {flac.info.channels}
+        if is_changed and str(error) == "the number of channels changes within the stream":
+            self.assertIsInstance(error, claxon.FormatError)
             return
+        if is_gap and isinstance(error, claxon.FormatError):
+            self.assertRegex(str(error), r"^the samples from \d+ to \d+ are (missing|repeated)$")
+            return
+        self.assertFalse(is_changed)
         found = sum(duration for _, duration in counts)
         self.assertLess(found, flac.info.samples or 0)
         self.assertIsInstance(error, claxon.InputEnds)

@@ -10,6 +10,7 @@ from array import array
 from typing import Any, Callable, List, Optional, Tuple
 
 import claxon
+from streams.frames import frame, frame_header, head_with, streaminfo, verbatim
 from tests import FRAME_OF_5, TOP, FolderCase, Trickle, head
 from tests.test_seeking import Counted, Made, made, made_head
 
@@ -38,7 +39,7 @@ class Failures(FolderCase):
         content = head() + 3 * FRAME_OF_5
         for place in range(len(head()), len(content)):
             error = ConnectionResetError(errno.ECONNRESET, "Connection reset by peer")
-            flac = claxon.Flac(FailsOnce(content, error, place))  # type: ignore[arg-type]
+            flac = claxon.Flac(FailsOnce(content, error, place))
             found: List[List[int]] = []
             with self.assertRaises(claxon.ReadFailed) as raised:
                 for block in flac.blocks():
@@ -52,7 +53,7 @@ class Failures(FolderCase):
         content = head() + b"damage" + FRAME_OF_5
         for place in range(len(head()), len(content)):
             error, failures = OSError(errno.EIO, "Input/output error"), []
-            flac = claxon.Flac(FailsOnce(content, error, place))  # type: ignore[arg-type]
+            flac = claxon.Flac(FailsOnce(content, error, place))
 
             def again(call: Callable[[], Any]) -> Any:
                 try:
@@ -73,7 +74,7 @@ class Failures(FolderCase):
         for place in range(len(head())):
             file = FailsOnce(head(), OSError("a failure that is made"), place)
             with self.assertRaises(claxon.ReadFailed) as raised:
-                claxon.Flac(file)  # type: ignore[arg-type]
+                claxon.Flac(file)
             self.assertEqual(str(raised.exception), "a failure that is made")
 
     def test_each_call_of_read(self) -> None:
@@ -83,7 +84,7 @@ class Failures(FolderCase):
             for failing in itertools.count(1):
                 file = Counted(stream.content(), failing)
                 try:
-                    samples, _ = claxon.read(file, start)
+                    samples, _ = claxon.read_arrays(file, start)
                 except claxon.ReadFailed as error:
                     self.assertEqual(str(error), "a failure that is made")
                     continue
@@ -103,7 +104,7 @@ class Failures(FolderCase):
         ]
         for error in made_errors:
             with self.assertRaises(OSError) as raised:
-                claxon.Flac(FailsOnce(head(), error, 9))  # type: ignore[arg-type]
+                claxon.Flac(FailsOnce(head(), error, 9))
             found = raised.exception
             self.assertIs(type(found), claxon.ReadFailed)
             self.assertEqual(found.args, error.args)
@@ -144,7 +145,7 @@ class Data(FolderCase):
             with self.assertRaises(TypeError) as raised:
                 call(data)
             self.assertIn("io.BytesIO(data)", str(raised.exception))
-        self.assertEqual(claxon.read(io.BytesIO(song)), claxon.read(SONG))
+        self.assertEqual(claxon.read_arrays(io.BytesIO(song)), claxon.read_arrays(SONG))
 
     def test_paths(self) -> None:
         """Paths of bytes stay paths, also one that begins as a stream does."""
@@ -153,7 +154,7 @@ class Data(FolderCase):
         for name in (b"song.flac", b"fLaC", b"fLaC \xff"):
             with open(name, "wb") as file:
                 file.write(SONG.read_bytes())
-            self.assertEqual(claxon.read(name), claxon.read(SONG))
+            self.assertEqual(claxon.read_arrays(name), claxon.read_arrays(SONG))
         self.assertRaises(FileNotFoundError, claxon.read, b"missing.flac")
         self.assertRaises(TypeError, claxon.read, 1.5)
 
@@ -185,7 +186,7 @@ class TrailingData(unittest.TestCase):
     ) -> Tuple[List["array[int]"], List[warnings.WarningMessage]]:
         with warnings.catch_warnings(record=True) as caught:
             warnings.simplefilter("always")
-            return claxon.read(io.BytesIO(content), start, stop)[0], caught
+            return claxon.read_arrays(io.BytesIO(content), start, stop)[0], caught
 
     def expect_warning(self, stream: Made, after: bytes, start: int = 0) -> None:
         content = stream.content()
@@ -246,3 +247,40 @@ class TrailingData(unittest.TestCase):
             warnings.simplefilter("error", claxon.TrailingDataWarning)
             with self.assertRaises(claxon.TrailingDataWarning):
                 claxon.read(io.BytesIO(stream.content() + ID3))
+
+
+class NotSupported(unittest.TestCase):
+    """What the format allows, and the library refuses: as the programs say it."""
+
+    def expect(self, kind: Any, content: bytes, text: str, position: int) -> None:
+        for call in CALLS:
+            with self.assertRaises(claxon.Error) as raised:
+                flac = call(io.BytesIO(content))
+                list(flac.blocks())
+            self.assertIs(type(raised.exception), kind)
+            self.assertEqual(str(raised.exception), text)
+            self.assertEqual(raised.exception.position, position)
+
+    def test_id3v2(self) -> None:
+        text = "stream starts with ID3 header rather than FLAC header"
+        tag = b"ID3\x04\0\0\0\0\0\x0a" + bytes(10)
+        self.expect(claxon.Unsupported, tag + head() + FRAME_OF_5, text, 0)
+        self.expect(claxon.FormatError, b"IDx" + head(), "invalid stream header", 0)
+
+    def test_sample_rates(self) -> None:
+        for rate in (0, 655360, (1 << 20) - 1):
+            content = head_with(streaminfo(rate=rate, samples=1)) + FRAME_OF_5
+            self.expect(claxon.Unsupported, content, "invalid sample rate", 4)
+
+    def test_32_bits(self) -> None:
+        """Their code was reserved once. In other streams it is ill-formed."""
+        subframe = verbatim([1, 2], 32)
+        frames = [frame(frame_header(2, 0, code, 9), [subframe]) for code in (7, 3)]
+        reserved = "invalid frame header, encountered reserved value"
+        for bits, at, kind in ((32, 0, True), (32, 1, False), (24, 0, False)):
+            content = head_with(streaminfo(bits=bits, samples=2)) + frames[at]
+            text = "32-bit samples are not supported" if kind else reserved
+            self.expect(claxon.Unsupported if kind else claxon.FormatError, content, text, 42)
+        good = frame(frame_header(2, 0, 0, 9), [subframe])
+        found, _ = claxon.read_arrays(io.BytesIO(head_with(streaminfo(bits=32)) + good))
+        self.assertEqual(found[0].tolist(), [1, 2])

@@ -15,6 +15,8 @@ from typing import Any, BinaryIO, Callable, Iterator, List, NamedTuple, Optional
 from unittest import mock
 
 import claxon
+from claxon import _calls
+from claxon._window import FIRST_WINDOW
 from streams.frames import MARKER, constant, crc16, frame, frame_header, metadata_block, verbatim
 from streams.frames import with_crc16
 from tests import DATA, FRAME_OF_5, STREAMINFO, FolderCase, cases, comments, head, interleaved
@@ -163,13 +165,13 @@ class Pieces(unittest.TestCase):
         """No byte is read while a block can be given of those that were read."""
         for stream, piece in streams_in_pieces():
             file = Limited(stream.content, piece, len(stream.content))
-            flac = claxon.Flac(file)  # type: ignore[arg-type]
+            flac = claxon.Flac(file)
             blocks = flac.blocks()
             for end, samples in zip(stream.ends, stream.samples):
                 file.limit = end
                 self.assertEqual(next(blocks).planar.tolist(), samples)
 
-    @mock.patch.object(claxon, "_MAX_WASTED", 1 << 19)
+    @mock.patch("claxon._frames.MAX_WASTED", 1 << 19)
     def test_feed(self) -> None:
         """Of bytes that are handed in, each whole block is given, and few are tried in vain."""
         for stream, piece in streams_in_pieces():
@@ -189,7 +191,7 @@ class Pieces(unittest.TestCase):
         content[stream.ends[0] - 1] ^= 1
         for piece in (1, 1460):
             file = Limited(bytes(content), piece, stream.ends[1])
-            flac = claxon.Flac(file)  # type: ignore[arg-type]
+            flac = claxon.Flac(file)
             self.assertRaises(claxon.FormatError, next, flac.blocks())
             flac.resync()
             self.assertEqual(next(flac.blocks()).planar.tolist(), stream.samples[1])
@@ -303,17 +305,17 @@ class LargeFrames(unittest.TestCase):
             self.expect_fed(stream, piece)
         self.expect_fed(first_frames(stream, 1), 61)
 
-    @mock.patch.object(claxon, "_MAX_WASTED", 1 << 21)
+    @mock.patch("claxon._frames.MAX_WASTED", 1 << 21)
     def test_little_is_wasted(self) -> None:
         """What is tried in vain is made good by the bytes and samples of each frame."""
         feed = self.expect_fed(stream_of_large_frames(), 1460)
-        self.assertLess(feed._wasted, 1 << 21)
+        self.assertLess(feed._frames.wasted, 1 << 21)
 
     def test_file_objects(self) -> None:
         """A read before a block is given would wait for ever."""
         stream = stream_of_large_frames()
         file = Limited(stream.content, 1460, len(stream.content))
-        flac = claxon.Flac(file)  # type: ignore[arg-type]
+        flac = claxon.Flac(file)
         blocks = flac.blocks()
         for end, samples in zip(stream.ends, stream.samples):
             file.limit = end
@@ -329,8 +331,8 @@ class LargeFrames(unittest.TestCase):
         self.assertEqual(frame[-2:], bytes(2))
         content = stream.content[: stream.ends[0] - len(frame)] + 12 * frame
         name = "claxon_next_block_planar"
-        start, call = time.process_time(), getattr(claxon._library, name)
-        with mock.patch.object(claxon._library, name, side_effect=call) as tries:
+        start, call = time.process_time(), getattr(_calls.library, name)
+        with mock.patch.object(_calls.library, name, side_effect=call) as tries:
             for piece in (100, 1460):
                 feed, found = claxon.Feed(), 0
                 for at in range(0, len(content), piece):
@@ -427,7 +429,7 @@ class Feeds(unittest.TestCase):
         for _ in range(300000 // len(FRAME_OF_5)):
             feed.feed(FRAME_OF_5)
             self.assertEqual(len(list(feed.blocks())), 1)
-        self.assertEqual(len(feed._window._bytes), claxon._FIRST_WINDOW)
+        self.assertEqual(len(feed._window._bytes), FIRST_WINDOW)
 
 
 class Writer(threading.Thread):

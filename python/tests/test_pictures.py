@@ -80,7 +80,7 @@ class Made(unittest.TestCase):
             self.expect_pictures(opened(stream), pictures)
             for step in (1, 61):
                 trickle = Trickle(stream, step)
-                flac = claxon.Flac(trickle, pictures=True)  # type: ignore[arg-type]
+                flac = claxon.Flac(trickle, pictures=True)
                 self.expect_pictures(flac, pictures)
 
     def test_none(self) -> None:

@@ -11,6 +11,7 @@ from subprocess import PIPE
 from typing import BinaryIO, Iterator, List, NamedTuple, Optional, Sequence
 
 import claxon
+from claxon import _calls
 from streams import frames as writer
 from streams.frames import MARKER, constant, frame_header, metadata_block
 from tests import DATA, TOP, Trickle, cases
@@ -238,12 +239,12 @@ class Borders(SeekCase):
         """It is refused, and nothing is lost."""
         with subprocess.Popen(["cat", str(SONG)], stdout=PIPE) as process:
             assert process.stdout
-            flac = claxon.Flac(process.stdout)  # type: ignore[arg-type]
+            flac = claxon.Flac(process.stdout)
             blocks = flac.blocks()
             self.assertEqual(next(blocks).time, 0)
             self.assertRaises(io.UnsupportedOperation, flac.seek, 5000)
             self.assertEqual([block.time for block in blocks], [4096, 8192])
-        flac = claxon.Flac(Trickle(SONG.read_bytes(), 9))  # type: ignore[arg-type]
+        flac = claxon.Flac(Trickle(SONG.read_bytes(), 9))
         self.assertFalse(flac.can_seek())
         self.assertRaises(OSError, flac.seek, 0)
 
@@ -350,20 +351,20 @@ class Damage(SeekCase):
     def test_memory_that_is_refused(self) -> None:
         stream = made(20, 300)
         flac = claxon.Flac(io.BytesIO(stream.content()))
-        call = claxon._library.claxon_next_block_planar
+        call = _calls.library.claxon_next_block_planar
         found = [0]
 
         def refused(*arguments: object) -> int:
             found[0] += 1
-            return claxon._OUT_OF_MEMORY if found[0] == 3 else int(call(*arguments))
+            return _calls.OUT_OF_MEMORY if found[0] == 3 else int(call(*arguments))
 
-        with unittest.mock.patch.object(claxon._library, "claxon_next_block_planar", refused):
+        with unittest.mock.patch.object(_calls.library, "claxon_next_block_planar", refused):
             with self.assertRaises(claxon.OutOfMemory):
                 for sample in range(0, 6000, 300):
                     flac.seek(sample)
         self.expect_samples(flac, 3210, stream)
         with unittest.mock.patch.object(
-            claxon._library, "claxon_seek", return_value=claxon._OUT_OF_MEMORY
+            _calls.library, "claxon_seek", return_value=_calls.OUT_OF_MEMORY
         ):
             self.assertRaises(claxon.OutOfMemory, flac.seek, 6000)
         self.assertEqual(next(flac.blocks()).time, 3300)
@@ -439,42 +440,47 @@ class Read(unittest.TestCase):
             for _ in range(300):
                 start = source.choice([0, 250, 1000, source.randrange(3000)])
                 stop = source.choice([None, 250, 1000, 2999, 3000, source.randrange(3000)])
-                for file in (io.BytesIO(stream.content()), Trickle(stream.content(), 999)):
-                    found, rate = claxon.read(file, start, stop)  # type: ignore[call-overload]
+                files: List[claxon.Readable] = [io.BytesIO(stream.content())]
+                for file in (*files, Trickle(stream.content(), 999)):
+                    found, rate = claxon.read_arrays(file, start, stop)
                     self.expect(found, stream.samples[start:stop])
                     self.assertEqual(rate, 44100)
 
     def test_past_the_end(self) -> None:
         stream = made(12, 250)
         for start, stop in ((3000, None), (9999, None), (2990, 9999), (5, 5), (7, 3), (0, 0)):
-            found, _ = claxon.read(io.BytesIO(stream.content()), start, stop)
+            found, _ = claxon.read_arrays(io.BytesIO(stream.content()), start, stop)
             self.expect(found, stream.samples[start:stop])
         unknown = made(12, 250, False)
-        found, _ = claxon.read(io.BytesIO(unknown.content()), 2990, 9999)
+        found, _ = claxon.read_arrays(io.BytesIO(unknown.content()), 2990, 9999)
         self.expect(found, unknown.samples[2990:])
         for start in (3000, 3001):
-            for file in (io.BytesIO(unknown.content()), Trickle(unknown.content(), 999)):
+            files: List[claxon.Readable] = [io.BytesIO(unknown.content())]
+            for file in (*files, Trickle(unknown.content(), 999)):
                 with self.assertRaises(claxon.NoSuchSample):
-                    claxon.read(file, start)  # type: ignore[call-overload]
-        for start, stop in ((-1, None), (0, -1)):
-            self.assertRaises(ValueError, claxon.read, io.BytesIO(stream.content()), start, stop)
+                    claxon.read_arrays(file, start)
+        for start, stop in ((-1, None), (0, -1), (-700, -20), (-9999, 5), (10, -9999)):
+            found, _ = claxon.read_arrays(io.BytesIO(stream.content()), start, stop)
+            self.expect(found, stream.samples[start:stop])
+            unknown = made(12, 250, False)
+            self.assertRaises(ValueError, claxon.read, io.BytesIO(unknown.content()), start, stop)
 
     def test_only_these_are_decoded(self) -> None:
         """What is damaged elsewhere doesn't matter; a cut file does."""
         stream = made(12, 250)
         content = bytearray(stream.content())
         content[len(stream.head) + len(stream.frames[0]) - 1] ^= 1
-        found, _ = claxon.read(io.BytesIO(content), 300, 1111)
+        found, _ = claxon.read_arrays(io.BytesIO(content), 300, 1111)
         self.expect(found, stream.samples[300:1111])
         self.assertRaises(claxon.FormatError, claxon.read, io.BytesIO(content), 0, 1111)
         self.assertRaises(claxon.NoSuchSample, claxon.read, io.BytesIO(content), 100, 1111)
         cut = stream.content()[: -len(stream.frames[-1])]
         with self.assertRaises(claxon.InputEnds) as raised:
-            claxon.read(io.BytesIO(cut), 300)
+            claxon.read_arrays(io.BytesIO(cut), 300)
         self.assertEqual(str(raised.exception), "the streaminfo says 3000 samples, 2750 were found")
-        self.expect(claxon.read(io.BytesIO(cut), 300, 2750)[0], stream.samples[300:2750])
+        self.expect(claxon.read_arrays(io.BytesIO(cut), 300, 2750)[0], stream.samples[300:2750])
 
     def test_song(self) -> None:
-        samples, _ = claxon.read(SONG)
-        found, rate = claxon.read(SONG, start=4000, stop=8200)
+        samples, _ = claxon.read_arrays(SONG)
+        found, rate = claxon.read_arrays(SONG, start=4000, stop=8200)
         self.assertEqual((found, rate), ([samples[0][4000:8200]], 8000))

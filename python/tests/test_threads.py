@@ -46,7 +46,7 @@ class Searcher(threading.Thread):
 
 
 class Threads(unittest.TestCase):
-    @mock.patch.object(claxon, "_MAX_WASTED", 1 << 40)
+    @mock.patch("claxon._frames.MAX_WASTED", 1 << 40)
     def given_meanwhile(self, frames: int) -> int:
         """How many blocks another stream gave in the middle half of the time that the call took:
         with Python's lock held it would give none.

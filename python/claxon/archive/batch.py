@@ -2,17 +2,19 @@
 
 It imports Python's own modules alone, as it is sent to the workers of a cluster as it is.
 """
+import errno
 import json
 import os
 import shutil
 import stat
 import subprocess
+import sys
 import tempfile
 import time
-from contextlib import nullcontext
-from typing import IO, Any, ContextManager, Dict, List, Optional, Tuple
+from contextlib import ExitStack, contextmanager, nullcontext
+from typing import IO, Any, ContextManager, Dict, Iterator, List, NamedTuple, Optional, Tuple
 
-# What is known of a file, in the order of the columns of the results.
+# What is known of a file that was verified, in the order of the first columns of the results.
 Row = Tuple[
     bytes,  # path; that of a folder ends with a slash
     Optional[int],  # size in bytes
@@ -25,24 +27,68 @@ Row = Tuple[
     Optional[int],  # the sample at which it begins
     Optional[str],  # what is wrong first, or why the file isn't supported or read
     Optional[int],  # the number of places that aren't right
-    Optional[str],  # where they are: ranges of thousandths of the file
+    Optional[str],  # where they are: ranges of thousandths of the file, and of what is missing
     Optional[str],  # version of claxon
+    Optional[int],  # sample rate in Hz
+    Optional[int],  # samples of each channel that the streaminfo says
+    Optional[str],  # the MD5 sum of the samples as computed, in hexadecimal digits
 ]
 
 # A file as it was just before it was verified: the first three columns.
 File = Tuple[bytes, int, int]
+
+# The size of a file, the times of the last changes of its content and of its inode, in nanoseconds
+# since 1970, its device and its inode.
+Identity = Tuple[int, int, int, int, int]
 
 _PROGRAM = "CLAXON_PROGRAM"
 
 # The versions of programs that were asked for them, by their paths and the times of their files.
 _VERSIONS: Dict[Tuple[str, int], str] = {}
 
+# A right stream of 32 samples.
+_RIGHT = bytes.fromhex(
+    "664c614380000022001000100000000000000ac4407000000020a2178117d5e9ed5f7660ab3e6719c6a2"
+    "fff86902000fb700017a27fff86902010fa200027b51"
+)
+
+# The member of an object that has the MD5 sum of the samples as computed.
+_SUM = "computed_md5"
+
+# Longer lines are decoded in pieces: a file that is made of faults has millions of places.
+_LONG = 1 << 20
+_PLACES, _BETWEEN = b'"places":[', b'},{"start_byte":'
+
+# What the system says of reads that fail. Such a read inside a frame may be told as a place.
+_READ_FAILED = frozenset(os.strerror(number) for number in errno.errorcode)
+
+# How the text begins of a file that ends inside a frame, and how many thousandths are said to be
+# missing at most.
+_CUT, _MOST_MISSING = "truncated", 99_000
+
+# The integers of SQLite have 64 bits, one of which is the sign.
+_SIGN = 1 << 63
+
+
+class Unable(Exception):
+    """No file can be verified here. The text says why."""
+
+
+def identity_of(status: os.stat_result) -> Identity:
+    changed, ctime = status.st_mtime_ns, status.st_ctime_ns
+    device, inode = status.st_dev, status.st_ino
+    if (changed | ctime | device | inode) >> 63:
+        changed, ctime, device, inode = (
+            (number + _SIGN) % (2 * _SIGN) - _SIGN for number in (changed, ctime, device, inode)
+        )
+    return status.st_size, changed, ctime, device, inode
+
 
 def find_program(beside: Optional[str]) -> str:
     """The path of the program `claxon`. `beside` is where it is if no other is named."""
     named = os.environ.get(_PROGRAM)
     if named:
-        return named
+        return os.path.abspath(named) if os.sep in named else named
     found = shutil.which("claxon")
     if found is None and beside is not None and os.access(beside, os.X_OK):
         found = beside
@@ -51,7 +97,7 @@ def find_program(beside: Optional[str]) -> str:
             f"the program `claxon` wasn't found on {os.uname().nodename}: it isn't on the PATH, and"
             f" the environment variable {_PROGRAM} doesn't name it"
         )
-    return found
+    return os.path.abspath(found)
 
 
 def version_of(program: str) -> str:
@@ -71,14 +117,30 @@ def version_of(program: str) -> str:
 
 
 def check_program(program: str) -> None:
-    """Tries the program on no file; where it is to be built first, this waits. OSError says why it
-    doesn't do."""
+    """Tries the program on a right file; where it is to be built first, this waits. OSError and
+    Unable say why it doesn't do."""
     version_of(program)
-    command = [program, "verify", "--json", "--files0-from", "-"]
-    status = subprocess.call(command, stdin=subprocess.DEVNULL, stdout=subprocess.DEVNULL)
-    if status != 0:
+    with ExitStack() as stack:
+        with _temporary():
+            folder = stack.enter_context(tempfile.TemporaryDirectory(prefix="claxon-archive-"))
+            with open(os.path.join(folder, "right"), "wb") as right:
+                right.write(_RIGHT)
+            with open(os.path.join(folder, "list"), "wb") as names:
+                names.write(b"right\0")
+        # Its standard error is no terminal then: it shows how it is built, and no progress.
+        shown = stack.enter_context(subprocess.Popen(["cat"], stdin=subprocess.PIPE, stdout=2))
+        ended = subprocess.run(
+            [program, "verify", "--json", "--files0-from", "list"],
+            stdin=subprocess.DEVNULL,
+            stdout=subprocess.PIPE,
+            stderr=shown.stdin,
+            cwd=folder,
+            check=False,
+        )
+    if ended.returncode != 0 or b'"verdict":"ok"' not in ended.stdout:
         raise OSError(
-            f"{program} doesn't do: `verify --json` of no file ended with status {status}"
+            f"{program} doesn't do: `verify --json` of a right file ended with status"
+            f" {ended.returncode}"
         )
 
 
@@ -86,28 +148,100 @@ def check_program(program: str) -> None:
 Turn = ContextManager[object]
 
 
+# ---- what a worker does
+
+
+class ToShow(NamedTuple):
+    """What a worker has to show before it is given files."""
+
+    version: str
+    # The operands, each with some of what is in it, of which it has to see one.
+    operands: List[Tuple[bytes, List[bytes]]]
+
+
+class Attempt(NamedTuple):
+    """What came of a batch."""
+
+    worker: str
+    rows: Optional[List[Row]]  # None if it failed
+    why: str  # it failed
+    is_able: bool  # whether other files can be verified there
+    has_died: bool = False  # the worker, with all batches that it had
+
+
+def attempt(
+    names: bytes, beside: Optional[str], to_show: Any = None, turn: Turn = nullcontext()
+) -> Tuple[str, Optional[List[Row]], str, bool]:
+    """Verifies a batch as `verify_batch`: the members of an `Attempt`. No exception leaves it."""
+    worker = _worker()
+    try:
+        rows = verify_batch(names, beside, turn)
+        if to_show is not None and any(row[4] == "not read" for row in rows):
+            _check_seen(to_show[1])
+        return worker, rows, "", True
+    except Unable as error:
+        return worker, None, str(error), False
+    except Exception as error:
+        why = "memory is refused" if isinstance(error, MemoryError) else str(error)
+        unable = why_unable(beside, to_show)
+        return worker, None, unable or why or type(error).__name__, not unable
+
+
+def why_unable(beside: Optional[str], to_show: Any = None) -> str:
+    """Why no file can be verified here; an empty text if files can be. `to_show` has the
+    members of a `ToShow`."""
+    try:
+        program = find_program(beside)
+        check_program(program)
+        if to_show is not None:
+            version, operands = to_show
+            if version_of(program) != version:
+                return f"{program} has version {version_of(program)}, and {version} is wanted"
+            _check_seen(operands)
+    except (OSError, Unable) as error:
+        return str(error)
+    return ""
+
+
+def _worker() -> str:
+    """The address of the worker of Dask that this is, or an empty text."""
+    distributed = sys.modules.get("distributed")
+    try:
+        return str(distributed.get_worker().address) if distributed else ""
+    except ValueError:
+        return ""
+
+
+def _check_seen(operands: List[Tuple[bytes, List[bytes]]]) -> None:
+    for operand, entries in operands:
+        if not os.path.exists(operand):
+            raise Unable(f"it doesn't see {os.fsdecode(operand)}")
+        if entries and not any(os.path.lexists(entry) for entry in entries):
+            raise Unable(f"it doesn't see what is in {os.fsdecode(operand)}")
+
+
+# ---- a batch
+
+
 def verify_batch(names: bytes, beside: Optional[str], turn: Turn = nullcontext()) -> List[Row]:
     """A row for each of the files whose paths are in `names`, each ended by a zero byte. A file
     that isn't a regular one any more has none."""
-    program = find_program(beside)
-    version = version_of(program)
+    try:
+        program = find_program(beside)
+        version = version_of(program)
+    except OSError as error:
+        raise Unable(str(error)) from error
     rows: List[Row] = []
-    listed: List[File] = []
+    files: List[File] = []
     for path in names.split(b"\0")[:-1]:
         try:
             status = os.stat(path)
         except OSError as error:
             rows.append(unread_row(path, error.strerror or str(error), version))
             continue
-        file = path, status.st_size, status.st_mtime_ns
-        if not stat.S_ISREG(status.st_mode):
-            continue
-        if is_text(path):
-            listed.append(file)
-        else:
-            rows.append(_verify_alone(program, version, file, turn))
-    rows += _verify_listed(program, version, listed, turn)
-    return rows
+        if stat.S_ISREG(status.st_mode):
+            files.append((path, *identity_of(status)[:2]))
+    return rows + _verify_files(program, version, files, turn)
 
 
 def is_text(path: bytes) -> bool:
@@ -119,128 +253,225 @@ def is_text(path: bytes) -> bool:
     return True
 
 
-def _verify_listed(program: str, version: str, files: List[File], turn: Turn) -> List[Row]:
+def _verify_files(program: str, version: str, files: List[File], turn: Turn) -> List[Row]:
     """Where the process ends early, the file that it was at isn't read, and a next one goes on."""
     rows: List[Row] = []
+    in_vain = 0
     while len(rows) < len(files):
         left = files[len(rows) :]
-        with tempfile.TemporaryFile() as names:
-            names.write(b"".join(path + b"\0" for path, _, _ in left))
-            names.seek(0)
-            told, why = _run(program, ["--files0-from", "-"], names, turn)
-        rows += [_row(file, found, version) for file, found in zip(left, told)]
+        told, why = _run(program, version, left, turn)
+        rows += told
         if len(told) < len(left):
             rows.append(unread_row(left[len(told)][0], why, version))
+            in_vain = 0 if told else in_vain + 1
+        if in_vain > 1:
+            check_program(program)
     return rows
 
 
-def _verify_alone(program: str, version: str, file: File, turn: Turn) -> Row:
-    """Hands the file over as standard input."""
-    try:
-        with open(file[0], "rb", buffering=0) as content:
-            told, why = _run(program, ["-"], content, turn)
-    except OSError as error:
-        return unread_row(file[0], error.strerror or str(error), version)
-    return _row(file, told[0], version) if told else unread_row(file[0], why, version)
-
-
-def _run(
-    program: str, arguments: List[str], given: IO[bytes], turn: Turn
-) -> Tuple[List[Dict[str, Any]], str]:
-    """What `claxon verify` tells of files, also of those before it was killed, and how it ended.
+def _run(program: str, version: str, files: List[File], turn: Turn) -> Tuple[List[Row], str]:
+    """The rows of the files of which `claxon verify` told, also before it was killed, and how it
+    ended.
 
     It writes each object at once. They go to a file, since a pipe would wake this process for each.
     Its session is its own, so that Ctrl-C at a terminal doesn't end it.
     """
-    with tempfile.TemporaryFile() as output, tempfile.TemporaryFile() as errors:
+    with ExitStack() as stack:
+        with _temporary():
+            names, folder = _put_names(files, stack)
+            output = stack.enter_context(tempfile.TemporaryFile())
+            errors = stack.enter_context(tempfile.TemporaryFile())
         with turn:
             status = subprocess.call(
-                [program, "verify", "--json", *arguments],
-                stdin=given,
+                [program, "verify", "--json", "--files0-from", "-"],
+                stdin=names,
                 stdout=output,
                 stderr=errors,
                 start_new_session=True,
+                cwd=folder,
             )
         output.seek(0)
+        rows = list(_rows(program, version, files, output))
+        if len(rows) == len(files):
+            return rows, ""
+        _check_room(output)
         errors.seek(0)
-        told = _objects(program, output.read())
         lines = [line for line in errors.read().decode("utf-8", "replace").split("\n") if line]
     how = f"ended with status {status}" if status >= 0 else f"was ended by signal {-status}"
-    return told, ": ".join([f"claxon {how} before it told a verdict", *lines[-1:]])
+    return rows, ": ".join([f"claxon {how} before it told a verdict", *lines[-1:]])
 
 
-def _objects(program: str, output: bytes) -> List[Dict[str, Any]]:
-    """The objects of the lines that are whole. To decode them as one array takes less time."""
-    lines = output.split(b"\n")[:-1]
+@contextmanager
+def _temporary() -> Iterator[None]:
+    """For what is written to the temporary folder: an error names it."""
     try:
-        found: List[Dict[str, Any]] = json.loads((b"[" + b",".join(lines) + b"]").decode())
-    except ValueError:
-        found = [_object(program, line) for line in lines]
-    return found
+        yield
+    except OSError as error:
+        raise Unable(f"{tempfile.gettempdir()}: {error.strerror or error}") from error
 
 
-def _object(program: str, line: bytes) -> Dict[str, Any]:
-    try:
-        found: Dict[str, Any] = json.loads(line.decode())
-    except ValueError:
-        line += b"\n"
-        raise OSError(f"{program} printed what isn't JSON: {line!r}") from None
-    return found
+def _put_names(files: List[File], stack: ExitStack) -> Tuple[IO[bytes], Optional[str]]:
+    """The list of the files, and the folder in which it holds. A name that isn't UTF-8 is that of a
+    link in a folder of its own."""
+    odd = {path: b"%d" % index for index, (path, _, _) in enumerate(files) if not is_text(path)}
+    folder: Optional[str] = None
+    if odd:
+        folder = stack.enter_context(tempfile.TemporaryDirectory(prefix="claxon-archive-"))
+        for path, name in odd.items():
+            os.symlink(path, os.path.join(os.fsencode(folder), name))
+    names = stack.enter_context(tempfile.TemporaryFile())
+    names.write(b"".join(odd.get(path, path) + b"\0" for path, _, _ in files))
+    names.seek(0)
+    return names, folder
+
+
+def _check_room(output: IO[bytes]) -> None:
+    """Whether the process may have ended early for want of room is tried while its output takes
+    it."""
+    with _temporary():
+        output.seek(0, os.SEEK_END)
+        output.write(bytes(1 << 16))
+        output.flush()
+
+
+def _rows(program: str, version: str, files: List[File], output: IO[bytes]) -> Iterator[Row]:
+    """The rows of the lines that are whole."""
+    for file in files:
+        line = output.readline(_LONG)
+        places = _Places(file[1])
+        try:
+            if line.endswith(b"\n"):
+                told = json.loads(line.decode())
+                places.add(told.get("places", []))
+            elif len(line) == _LONG:
+                told = _long_object(line, output, places)
+            else:
+                return
+            if told is None:
+                return
+            row = _row(file, told, places, version)
+            if not all(map(_is_kept, row)):
+                raise ValueError
+        except (ValueError, AttributeError, LookupError, TypeError):
+            begin = line[:200]
+            raise OSError(f"{program} printed what isn't the object of a file: {begin!r}") from None
+        yield row
+
+
+def _is_kept(value: Any) -> bool:
+    """Whether SQLite can keep the value."""
+    if isinstance(value, str):
+        value.encode()  # ValueError where it isn't text
+        return True
+    if isinstance(value, int):
+        return -_SIGN <= value < _SIGN
+    return value is None or isinstance(value, bytes)
+
+
+class _Places:
+    """What is kept of the places of a file that aren't right: the first, what is wrong at the last
+    and the sample after it, their number, and in which thousandths of the file they are."""
+
+    def __init__(self, size: int) -> None:
+        self._size = max(size, 1)
+        self._ranges: List[List[int]] = []
+        self.first: Dict[str, Any] = {}
+        self.last = ""
+        self.end_sample: Optional[int] = None
+        self.number = 0
+
+    def add(self, places: List[Dict[str, Any]]) -> None:
+        if not places:
+            return
+        self.first = self.first or places[0]
+        self.last = str(places[-1]["what"])
+        self.end_sample = places[-1].get("end_sample")
+        self.number += len(places)
+        for place in places:
+            self._add_range(place["start_byte"], place["end_byte"])
+
+    def _add_range(self, start: int, end: int) -> None:
+        first = min(999, start * 1000 // self._size)
+        last = max(first, min(999, (end * 1000 - 1) // self._size))
+        if self._ranges and first <= self._ranges[-1][1] + 1:
+            self._ranges[-1][1] = max(self._ranges[-1][1], last)
+        else:
+            self._ranges.append([first, last])
+
+    def parts(self, missing: int) -> Optional[str]:
+        """As `17-17 500-612`, the first being 0; from 1000 on so many are missing."""
+        ranges = [*self._ranges, [1000, 999 + missing]] if missing else self._ranges
+        return " ".join(f"{first}-{last}" for first, last in ranges) or None
+
+
+def _long_object(begin: bytes, output: IO[bytes], places: _Places) -> Optional[Dict[str, Any]]:
+    """The object of a line of which this is the begin, with its last places alone: the others are
+    added to `places`. None if the line isn't whole."""
+    head, _, rest = begin.partition(_PLACES)
+    while not rest.endswith(b"\n"):
+        end = rest.rfind(_BETWEEN)
+        if end >= 0:
+            places.add(json.loads(b"[" + rest[: end + 1] + b"]"))
+            rest = rest[end + 2 :]
+        more = output.readline(_LONG)
+        if not more:
+            return None
+        rest += more
+    told: Dict[str, Any] = json.loads(head.rstrip(b",") + b"}")
+    told.update(json.loads(b"{" + _PLACES + rest))
+    places.add(told["places"])
+    return told
 
 
 def unread_row(path: bytes, why: str, version: Optional[str]) -> Row:
     """The row of a file that couldn't be read."""
-    now = int(time.time())
-    return (path, None, None, now, "not read", None, None, None, None, why, None, None, version)
+    now, no = int(time.time()), None
+    return (path, no, no, now, "not read", no, no, no, no, why, no, no, version, no, no, no)
 
 
-def _row(file: File, told: Dict[str, Any], version: str) -> Row:
-    path, size, changed = file
-    verdict, now = told["verdict"], int(time.time())
-    if verdict == "ok":
-        samples, md5 = told["samples"], told["md5"]
-        return (path, size, changed, now, "ok", samples, md5, None, None, None, None, None, version)
-    if verdict == "not read":
-        return unread_row(path, told["reason"], version)
-    places = told.get("places", []) if verdict == "wrong" else []
-    first = places[0] if places else {}
+def _row(file: File, told: Dict[str, Any], places: _Places, version: str) -> Row:
+    verdict = told["verdict"]
+    if verdict == "not read" or places.last in _READ_FAILED:
+        return unread_row(file[0], str(told.get("reason") or places.last), version)
+    is_wrong = verdict == "wrong"
     return (
-        path,
-        size,
-        changed,
-        now,
+        *file,
+        int(time.time()),
         verdict,
         told.get("samples"),
         told.get("md5"),
-        first.get("start_byte"),
-        first.get("start_sample"),
-        _what_is_wrong(told),
-        len(places) + told.get("left_out", 0) if verdict == "wrong" else None,
-        _parts(places, size) if places else None,
+        places.first.get("start_byte") if is_wrong else None,
+        places.first.get("start_sample") if is_wrong else None,
+        None if verdict == "ok" else _what_is_wrong(told, places),
+        places.number + told.get("left_out", 0) if is_wrong else None,
+        places.parts(_missing(told, places)) if is_wrong else None,
         version,
+        told.get("sample_rate"),
+        told.get("streaminfo_samples"),
+        told.get(_SUM),
     )
 
 
-def _what_is_wrong(told: Dict[str, Any]) -> str:
+def _missing(told: Dict[str, Any], places: _Places) -> int:
+    """What is missing at the end of the file, in thousandths of what is there, by the number of
+    samples. It is 0 where that isn't known."""
+    there, said = told.get("samples", 0), told.get("streaminfo_samples", 0)
+    if places.number > 0:
+        there = places.end_sample or 0
+        is_known = places.last.startswith(_CUT) and "left_out" not in told
+    else:
+        is_known = told.get("md5") != "ok"
+    if not is_known or said <= there:
+        return 0
+    return max(1, min(_MOST_MISSING, (int(said) - int(there)) * 1000 // max(1, int(there))))
+
+
+def _what_is_wrong(told: Dict[str, Any], places: _Places) -> str:
     if "reason" in told:
         return str(told["reason"])
-    if told["places"]:
-        return str(told["places"][0]["what"])
+    if places.first:
+        return str(places.first["what"])
     said = told.get("streaminfo_samples", told["samples"])
     if said != told["samples"]:
         return f"the streaminfo says {said} sample" + ("" if said == 1 else "s")
     return "the MD5 sum of the samples isn't that of the streaminfo"
-
-
-def _parts(places: List[Dict[str, Any]], size: int) -> str:
-    """Which thousandths of the file have damage: `17-17 500-612`, the first being 0."""
-    ranges: List[List[int]] = []
-    size = max(size, 1)
-    for place in places:
-        first = min(999, place["start_byte"] * 1000 // size)
-        last = max(first, min(999, (place["end_byte"] * 1000 - 1) // size))
-        if ranges and first <= ranges[-1][1] + 1:
-            ranges[-1][1] = max(ranges[-1][1], last)
-        else:
-            ranges.append([first, last])
-    return " ".join(f"{first}-{last}" for first, last in ranges)

@@ -3,12 +3,16 @@ import itertools
 import operator
 import os
 import stat
-from typing import Callable, FrozenSet, Iterator, List, Optional, Tuple
+import threading
+import time
+from typing import Callable, FrozenSet, Iterator, List, NamedTuple, Optional, Tuple
+
+from .batch import identity_of
 
 MARKER = b"fLaC"
 
-# The path of a file, its size, and the time of its last change in nanoseconds since 1970.
-Found = Tuple[bytes, int, int]
+# The path of a file, and the members of its identity.
+Found = Tuple[bytes, int, int, int, int, int]
 
 # What lies in a folder is sorted, so that rows of neighbours are put together, which takes less
 # time. With more entries each of so many are sorted: all would take much memory.
@@ -19,6 +23,95 @@ Unreadable = Callable[[bytes, OSError], object]
 
 # Files that aren't opened in search of the marker, by their devices and inodes.
 Inodes = FrozenSet[Tuple[int, int]]
+
+# A part of what is found ends at so many files, or after so many seconds; so many are ahead.
+_FILES, _SECONDS, _AHEAD = 300, 0.5, 4
+
+# How many entries of a folder tell that it is seen elsewhere too.
+_ENTRIES = 10
+
+
+class OperandError(Exception):
+    """An operand can't be verified. The text says why."""
+
+
+def check_operand(operand: bytes) -> None:
+    """OperandError where it is neither a folder nor a file that is there."""
+    try:
+        mode = os.stat(operand).st_mode
+    except OSError as error:
+        raise OperandError(f"{os.fsdecode(operand)}: {error.strerror or error}") from error
+    if not stat.S_ISREG(mode) and not stat.S_ISDIR(mode):
+        raise OperandError(f"{os.fsdecode(operand)}: neither a folder nor a file")
+
+
+def first_entries(operand: bytes) -> Optional[List[bytes]]:
+    """The paths of some of what is in a folder; None of a file, or where it can't be read."""
+    try:
+        with os.scandir(operand) as entries:
+            return [entry.path for entry in itertools.islice(entries, _ENTRIES)]
+    except OSError:
+        return None
+
+
+class Part(NamedTuple):
+    """A part of what is found: files, and what can't be read, with the reason."""
+
+    files: List[Found]
+    unread: List[Tuple[bytes, str]]
+
+
+class Finder(threading.Thread):
+    """Finds files while others are verified."""
+
+    def __init__(
+        self,
+        operands: List[bytes],
+        passed_over: Optional[Inodes],
+        hand: Callable[[Optional[Part]], object],
+    ) -> None:
+        """Hands over parts; None is the end. `taken` has to be called for each part."""
+        super().__init__(daemon=True)
+        self._operands = operands
+        self._passed_over = passed_over
+        self._hand = hand
+        self._room = threading.Semaphore(_AHEAD)
+        self._is_stopped = False
+        self._part = Part([], [])
+        self._ends_at = time.monotonic() + _SECONDS
+        self.error: Optional[BaseException] = None
+
+    def taken(self) -> None:
+        self._room.release()
+
+    def stop(self) -> None:
+        self._is_stopped = True
+        self._room.release()
+
+    def run(self) -> None:
+        try:
+            for operand in self._operands:
+                for found in find(operand, self._passed_over, self._put_unread):
+                    files = self._part.files
+                    files.append(found)
+                    if len(files) >= _FILES or time.monotonic() > self._ends_at:
+                        self._hand_over()
+                    if self._is_stopped:
+                        return
+            self._hand_over()
+        except BaseException as error:
+            self.error = error
+        self._hand(None)
+
+    def _put_unread(self, path: bytes, error: OSError) -> None:
+        self._part.unread.append((path, error.strerror or str(error)))
+        if len(self._part.unread) >= _FILES:
+            self._hand_over()
+
+    def _hand_over(self) -> None:
+        self._room.acquire()
+        self._hand(self._part)
+        self._part, self._ends_at = Part([], []), time.monotonic() + _SECONDS
 
 
 def find(operand: bytes, passed_over: Optional[Inodes], unreadable: Unreadable) -> Iterator[Found]:
@@ -34,7 +127,7 @@ def find(operand: bytes, passed_over: Optional[Inodes], unreadable: Unreadable) 
         unreadable(_as_folder(operand), error)
         return
     if stat.S_ISREG(status.st_mode):
-        yield operand, status.st_size, status.st_mtime_ns
+        yield (operand, *identity_of(status))
         return
     folders = [operand] if stat.S_ISDIR(status.st_mode) else []
     while folders:
@@ -74,7 +167,7 @@ def _find_among(
             if stat.S_ISREG(status.st_mode) and (
                 is_named or _is_marked(entry, status, passed_over)
             ):
-                yield entry.path, status.st_size, status.st_mtime_ns
+                yield (entry.path, *identity_of(status))
         except OSError as error:
             if is_named or not isinstance(error, FileNotFoundError):
                 unreadable(entry.path, error)

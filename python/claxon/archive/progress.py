@@ -1,7 +1,9 @@
 """How far a run is, on standard error."""
+import os
 import sys
 import time
-from typing import Any
+from collections import Counter
+from typing import Any, Mapping
 
 from .results import Due
 
@@ -24,13 +26,21 @@ def time_text(seconds: float) -> str:
     return f"{hours}:{minute:02d}:{second:02d}"
 
 
+def not_right_text(verdicts: Mapping[str, int]) -> str:
+    """How many files aren't right: `2 wrong, 1 not read`."""
+    others = (verdict for verdict in ("not supported", "not read") if verdicts.get(verdict))
+    counts = (f"{verdicts[verdict]:,} {verdict}" for verdict in others)
+    return ", ".join([f"{verdicts.get('wrong', 0):,} wrong", *counts])
+
+
 class Progress:
     """A line that changes at a terminal; elsewhere a line now and then."""
 
     def __init__(self) -> None:
         self._is_terminal = sys.stderr.isatty()
         self._shown_at = time.monotonic() - (0 if not self._is_terminal else _PAUSE)
-        self._found = self._files = self._size = self._wrong = 0
+        self._found = self._files = self._size = 0
+        self._verdicts: "Counter[str]" = Counter()
         self._due = Due(0, 0)
         self._began = time.monotonic()
 
@@ -43,31 +53,46 @@ class Progress:
         """So much is to be verified."""
         self._due, self._began = due, time.monotonic()
 
-    def add(self, files: int, size: int, wrong: int) -> None:
-        """So much more was verified, and is kept."""
+    def add(self, files: int, size: int, verdicts: Mapping[str, int]) -> None:
+        """So much more was verified, with so many of each verdict, and is kept."""
         self._files += files
         self._size += size
-        self._wrong += wrong
+        self._verdicts.update(verdicts)
         seconds = time.monotonic() - self._began
         rate = self._size / seconds if seconds else 0
         left = time_text((self._due.size - self._size) / rate) if rate else "?"
         self._show(
-            f"{self._files:,} of {self._due.files:,} files, {size_text(self._size)} of"
-            f" {size_text(self._due.size)}, {size_text(rate)}/s, {left} left, {self._wrong:,} wrong"
+            f"{self._files:,} of {self._due.files:,} files, {left} left,"
+            f" {not_right_text(self._verdicts)}, {size_text(self._size)} of"
+            f" {size_text(self._due.size)}, {size_text(rate)}/s"
         )
 
     def end(self) -> None:
         if self._is_terminal:
-            sys.stderr.write("\r\x1b[K")
-            sys.stderr.flush()
+            self._write("\r\x1b[K")
 
     def _show(self, text: str) -> None:
         now = time.monotonic()
         if now - self._shown_at < (0.2 if self._is_terminal else _PAUSE):
             return
         self._shown_at = now
-        sys.stderr.write(f"\r{text}\x1b[K" if self._is_terminal else f"{text}\n")
-        sys.stderr.flush()
+        self._write(self._fitting(text) if self._is_terminal else f"{text}\n")
+
+    def _fitting(self, text: str) -> str:
+        """The text in place of the line before. One that is wider than the terminal couldn't be
+        written over."""
+        try:
+            columns = os.get_terminal_size(sys.stderr.fileno()).columns or len(text) + 1
+        except OSError:
+            columns = len(text) + 1
+        return f"\r{text[: columns - 1]}\x1b[K"
+
+    def _write(self, text: str) -> None:
+        try:
+            sys.stderr.write(text)
+            sys.stderr.flush()
+        except OSError:  # the terminal is gone, which ends no run
+            pass
 
 
 class Bar(Progress):
@@ -86,10 +111,10 @@ class Bar(Progress):
         self._bar.close()
         self._bar = self._tqdm(total=due.size, unit="B", unit_scale=True, dynamic_ncols=True)
 
-    def add(self, files: int, size: int, wrong: int) -> None:
+    def add(self, files: int, size: int, verdicts: Mapping[str, int]) -> None:
         self._files += files
-        self._wrong += wrong
-        text = f"{self._files:,} of {self._due.files:,} files, {self._wrong:,} wrong"
+        self._verdicts.update(verdicts)
+        text = f"{self._files:,} of {self._due.files:,} files, {not_right_text(self._verdicts)}"
         self._bar.set_postfix_str(text, refresh=False)
         self._bar.update(size)
 

@@ -1,46 +1,26 @@
 """The results: a database of SQLite with a row for each file."""
 import fcntl
 import itertools
+import math
 import os
 import sqlite3
 import time
 from contextlib import contextmanager
-from typing import Any, Dict, Iterable, Iterator, List, NamedTuple, Optional, Tuple
+from typing import Any, Dict, Iterable, Iterator, List, NamedTuple, Optional, Tuple, Union
 
-from .batch import Row
+from . import tables
+from .batch import Row, unread_row
 from .finding import Found, Inodes, is_missing
+from .reading import open_to_read
+from .tables import SHOWN, STATE, path_text
 
-# The bytes "clax", and the version of the tables.
-_APPLICATION, _VERSION = 0x636C6178, 1
-
-_TABLES = """
-CREATE TABLE files (
-    path BLOB PRIMARY KEY, size INTEGER, changed INTEGER, verified INTEGER NOT NULL,
-    verdict TEXT NOT NULL, samples INTEGER, md5 TEXT, byte INTEGER, sample INTEGER, damage TEXT,
-    places INTEGER, parts TEXT, version TEXT
-) WITHOUT ROWID;
-CREATE TABLE runs (
-    id INTEGER PRIMARY KEY, began REAL NOT NULL, ended REAL NOT NULL, files INTEGER NOT NULL,
-    bytes INTEGER NOT NULL
-);
-"""
-COLUMNS = (
-    "path size changed verified verdict samples md5 byte sample damage places parts version".split()
-)
+COLUMNS = tables.COLUMNS
 
 VERDICTS = ("ok", "wrong", "not supported", "not read", "missing")
 
-# SQLite may allow no more values in a statement.
-_MOST_VALUES = 999
-
-_PUT = "INSERT OR REPLACE INTO files VALUES "
-_ROW = f"({', '.join('?' * len(COLUMNS))})"
-
-# Most rows are those of right files. A statement with many rows and few values is faster than many.
-_RIGHT_ROW = "(?, ?, ?, ?, 'ok', ?, ?, NULL, NULL, NULL, NULL, NULL, ?)"
-
-# How many files are looked up in the results by one statement.
-_CHUNK = 300
+# How many files are looked up in the results by one statement. Older versions of SQLite allow no
+# more than 999 values in it.
+_CHUNK = 300 if sqlite3.sqlite_version_info >= (3, 32) else 150
 
 # Paths are bytes, for which the module would look for an adapter each time, in vain.
 sqlite3.register_adapter(bytes, bytes)
@@ -55,6 +35,10 @@ class ResultsError(Exception):
     """The results can't be used. The text says why."""
 
 
+class TemporaryError(Exception):
+    """The folder for SQLite's temporary files can't be used. The text names it."""
+
+
 class Due(NamedTuple):
     """How much is to be verified."""
 
@@ -62,9 +46,22 @@ class Due(NamedTuple):
     size: int
 
 
-class Run(NamedTuple):
-    """What a run verified, and in how many seconds."""
+class DueFile(NamedTuple):
+    """A file that is to be verified, as it was found."""
 
+    path: bytes
+    size: int
+    ctime: Optional[int]
+    device: Optional[int]
+    inode: Optional[int]
+
+
+class Run(NamedTuple):
+    """A run: its number in the history, when it began, in seconds since 1970, what it verified, and
+    in how many seconds."""
+
+    id: int
+    began: float
     files: int
     size: int
     seconds: float
@@ -90,18 +87,6 @@ def ranges_of(paths: Iterable[bytes]) -> Ranges:
 
 
 ALL: Ranges = [(b"/", b"0")]
-
-
-def _put_due(number: int) -> str:
-    """The statement that adds to the files that are due those of so many files that are new, were
-    changed, weren't read the last time, or were verified before some time."""
-    return f"""
-INSERT INTO due SELECT found.column1, found.column2, files.verdict
-FROM (VALUES {', '.join(['(?, ?, ?)'] * number)}) AS found
-LEFT JOIN files ON files.path = found.column1
-WHERE files.size IS NOT found.column2 OR files.changed IS NOT found.column3
-    OR files.verdict IN ('not read', 'missing') OR files.verified < ?
-"""
 
 
 class Lock:
@@ -138,42 +123,65 @@ class Lock:
 class Results:
     """An open database of results."""
 
-    def __init__(self, path: str, is_new: bool) -> None:
-        """Opens it; makes it where there is none, if `is_new` allows that."""
+    def __init__(self, path: str, is_new: bool, is_read: bool = False) -> None:
+        """Opens it; makes it where there is none, if `is_new` allows that. If `is_read` nothing is
+        written to it."""
         self.path = path
         if not is_new and not os.path.exists(path):
             raise ResultsError("no such file")
-        self._database = sqlite3.connect(path, timeout=_PATIENCE, isolation_level=None)
         self._run: Optional[int] = None
-        # Where the power fails, the verdicts of the last batches can be lost, and are found again.
-        self._database.execute("PRAGMA synchronous = NORMAL")
-        self._check_version()
+        if is_read:
+            self._database = open_to_read(path, _PATIENCE)
+        else:
+            self._database = sqlite3.connect(path, timeout=_PATIENCE, isolation_level=None)
+            # Where the power fails, the last verdicts can be lost, and are found again.
+            self._database.execute("PRAGMA synchronous = NORMAL")
+        self._database.create_function("path_text", 1, path_text, deterministic=True)
+        self._check_version(is_read)
 
     def close(self) -> None:
         self._database.close()
 
-    def _check_version(self) -> None:
+    def _check_version(self, is_read: bool) -> None:
         database = self._database
         (application,) = database.execute("PRAGMA application_id").fetchone()
         (version,) = database.execute("PRAGMA user_version").fetchone()
-        (tables,) = database.execute("SELECT count(*) FROM sqlite_master").fetchone()
-        if (application, version, tables) == (0, 0, 0):
+        (number,) = database.execute("SELECT count(*) FROM sqlite_master").fetchone()
+        if (application, version, number) == (0, 0, 0):
+            if is_read:
+                raise ResultsError("it has no results")
             self._make_tables()
-        elif application != _APPLICATION:
+        elif application != tables.APPLICATION:
             raise ResultsError("it is a database, but not one of claxon-archive; it is left alone")
-        elif version != _VERSION:
+        elif version == 1:
+            self._take_over(is_read)
+        elif version != tables.VERSION:
             raise ResultsError(
-                f"its tables have version {version}, and this program's have version {_VERSION};"
-                " it is left alone: name another file, or take the version that made it"
+                f"its tables have version {version}, and this program's have version"
+                f" {tables.VERSION}; it is left alone: name another file, or take the version that"
+                " made it"
             )
 
     def _make_tables(self) -> None:
         self._database.execute("PRAGMA journal_mode = WAL")
         with self.transaction():
-            for table in _TABLES.split(";\n")[:-1]:
-                self._database.execute(table)
-            self._database.execute(f"PRAGMA application_id = {_APPLICATION}")
-            self._database.execute(f"PRAGMA user_version = {_VERSION}")
+            self._execute_all(tables.TABLES)
+            self._database.execute(f"PRAGMA application_id = {tables.APPLICATION}")
+            self._database.execute(f"PRAGMA user_version = {tables.VERSION}")
+
+    def _take_over(self, is_read: bool) -> None:
+        """Makes the tables of this version from those of version 1, or shows them as such."""
+        if is_read:
+            for statement in tables.VIEWS_OF_VERSION_1:
+                self._database.execute(statement)
+            return
+        with self.transaction():
+            for statement in tables.TAKE_OVER:
+                self._database.execute(statement)
+
+    def _execute_all(self, statements: str) -> None:
+        for statement in statements.split(";\n")[:-1]:
+            self._database.execute(statement)
 
     @contextmanager
     def transaction(self) -> Iterator[None]:
@@ -199,89 +207,151 @@ class Results:
 
     # ---- finding what is to be verified
 
-    def start_listing(self) -> None:
-        self._database.execute("PRAGMA temp_store = FILE")
-        self._database.execute("CREATE TEMP TABLE due (path BLOB, size INTEGER, verdict TEXT)")
-        self._database.execute("CREATE TEMP TABLE unread (path BLOB, reason TEXT)")
-
-    def put_unread(self, path: bytes, error: OSError) -> None:
-        """Lists a file or folder that can't be read."""
-        reason = error.strerror or str(error)
-        self._database.execute("INSERT INTO unread VALUES (?, ?)", (path, reason))
-
-    def list_files(self, found: Iterator[Found], before: float) -> Iterator[int]:
-        """Lists those of these files that are to be verified: also those that were verified before
-        this time. Yields numbers of files as they are found."""
-        while True:
-            chunk = list(itertools.islice(found, _CHUNK))
-            if not chunk:
-                return
-            put = _put_due(len(chunk))
-            self._database.execute(put, [*itertools.chain.from_iterable(chunk), before])
-            yield len(chunk)
-
-    def end_listing(self, ranges: Ranges, found: int) -> Due:
-        """Puts rows of what can't be read and of what is missing. `found` files were found."""
-        with self.transaction():
-            for low, high in ranges:
-                self._database.execute(
-                    "DELETE FROM files WHERE path >= ? AND path < ? AND verdict = 'not read'"
-                    " AND substr(path, -1) = x'2f'",
-                    (low, high),
-                )
-            self._database.execute(
-                "INSERT OR REPLACE INTO files (path, verified, verdict, damage)"
-                " SELECT path, ?, 'not read', reason FROM unread",
-                (int(time.time()),),
+    def number_below(self, ranges: Ranges) -> int:
+        """How many files there are rows of."""
+        return sum(
+            self._count(
+                "files WHERE path >= ? AND path < ? AND substr(path, -1) <> x'2f'", *limits
             )
-            if self._number_not_found(ranges, found) > 0:
-                self._mark_missing(ranges)
+            for limits in ranges
+        )
+
+    def start_listing(self, ranges: Ranges) -> None:
+        with _temporary():
+            self._database.execute("PRAGMA temp_store = FILE")
+            self._execute_all(tables.TEMPORARY_TABLES)
+            self._database.executemany("INSERT INTO within VALUES (?, ?)", ranges)
+        self._there = self._count(
+            "files JOIN within ON path >= low AND path < high"
+            " WHERE missing IS NULL AND substr(path, -1) <> x'2f'"
+        )
+        self._found = 0
+        self._has_taken_over = self._count("files WHERE ctime IS NULL AND verdict = 'ok'") > 0
+
+    def list_files(
+        self, found: List[Found], unread: List[Tuple[bytes, str]], before: float
+    ) -> None:
+        """Lists those of the found files that are to be verified: also those that were verified
+        before this time. The others are files and folders that can't be read, and why."""
+        with _temporary():
+            for start in range(0, len(found), _CHUNK):
+                chunk = found[start : start + _CHUNK]
+                put = tables.PUT_DUE.format(rows=", ".join(["(?, ?, ?, ?, ?, ?)"] * len(chunk)))
+                self._database.execute(put, [*itertools.chain.from_iterable(chunk), before])
+            self._database.executemany("INSERT INTO unread VALUES (?, ?)", unread)
+        self._found += len(found)
+        if self._has_taken_over:
+            with self.transaction():
+                self._put_inodes(found)
+
+    def _put_inodes(self, found: List[Found]) -> None:
+        """Completes rows that were taken over."""
+        self._database.executemany(
+            "UPDATE files SET ctime = ?, device = ?, inode = ?"
+            " WHERE path = ? AND size = ? AND changed = ? AND ctime IS NULL AND verdict = 'ok'",
+            (
+                (ctime, device, inode, path, size, changed)
+                for path, size, changed, ctime, device, inode in found
+            ),
+        )
+
+    def end_listing(self, sample: float) -> Due:
+        """Puts rows of what can't be read, marks what is missing, and lists so many hundredths of
+        the right files again."""
+        with self.transaction():
+            self._database.execute(
+                "DELETE FROM files WHERE verdict = 'not read' AND substr(path, -1) = x'2f'"
+                " AND EXISTS (SELECT 1 FROM within WHERE path >= low AND path < high)"
+            )
+            back = self._unmark_missing()
+            if self._number_not_found(back) > 0:
+                self._mark_missing()
+            unread = self._database.execute("SELECT path, min(reason) FROM unread GROUP BY path")
+            self._put_rows(
+                (*unread_row(path, why, None), None, None, None, path_text(path))
+                for path, why in unread
+            )
+        if sample > 0:
+            with _temporary():
+                self._list_sample(sample)
         files, size = self._database.execute("SELECT count(*), total(size) FROM due").fetchone()
         return Due(files, int(size))
 
-    def _number_not_found(self, ranges: Ranges, found: int) -> int:
-        """How many rows there are of files that weren't found, and weren't missing before."""
-        (unread,) = self._database.execute("SELECT count(DISTINCT path) FROM unread").fetchone()
-        new, back = self._database.execute(
-            "SELECT count(*) - count(verdict), total(verdict IS 'missing') FROM due"
-        ).fetchone()
-        number = -(found + unread - new - back)
-        for low, high in ranges:
-            (rows,) = self._database.execute(
-                "SELECT count(*) FROM files WHERE path >= ? AND path < ? AND verdict <> 'missing'",
-                (low, high),
-            ).fetchone()
-            number += rows
-        return int(number)
+    def _number_not_found(self, back: int) -> int:
+        """How many of the rows that there were are of files that weren't found, where so many that
+        were missing are back."""
+        unread = self._count(
+            "files JOIN (SELECT DISTINCT path FROM unread) USING (path) WHERE missing IS NULL"
+        )
+        new = self._count("due WHERE is_new")
+        return self._there + back - (self._found - new) - unread
 
-    def _mark_missing(self, ranges: Ranges) -> None:
-        for row in self._rows("verdict <> 'missing' AND substr(path, -1) <> x'2f'", ranges):
-            if is_missing(row["path"]):
+    def _unmark_missing(self) -> int:
+        back = [path for path in self._paths("missing IS NOT NULL") if not is_missing(path)]
+        self._database.executemany(
+            "UPDATE files SET missing = NULL WHERE path = ?", ((path,) for path in back)
+        )
+        return len(back)
+
+    def _mark_missing(self) -> None:
+        now = int(time.time())
+        condition = (
+            "missing IS NULL AND substr(path, -1) <> x'2f'"
+            " AND path NOT IN (SELECT path FROM unread)"
+        )
+        for path in self._paths(condition):
+            if is_missing(path):
                 self._database.execute(
-                    "UPDATE files SET verdict = 'missing', damage = ? WHERE path = ?",
-                    ("there is no such file any more", row["path"]),
+                    "UPDATE files SET missing = ? WHERE path = ?", (now, path)
                 )
 
+    def _paths(self, condition: str) -> Iterator[bytes]:
+        """The paths of rows that the run is about, which may be changed meanwhile."""
+        ranges = self._database.execute("SELECT low, high FROM within").fetchall()
+        for row in self._rows(condition, ranges, ["path"]):
+            yield row["path"]
+
+    def _list_sample(self, percent: float) -> None:
+        """Those of the right files that were verified longest ago."""
+        right = (
+            "FROM within JOIN files ON path >= low AND path < high"
+            " WHERE verdict = 'ok' AND missing IS NULL AND unread IS NULL"
+        )
+        (number,) = self._database.execute(f"SELECT count(*) {right}").fetchone()
+        self._database.execute(
+            f"INSERT INTO due SELECT path, size, ctime, device, inode, 0 {right}"
+            " AND path NOT IN (SELECT path FROM due) ORDER BY verified, path LIMIT ?",
+            (math.ceil(number * percent / 100),),
+        )
+
+    def number_missing(self, ranges: Ranges) -> int:
+        return sum(
+            self._count("files WHERE path >= ? AND path < ? AND missing IS NOT NULL", *limits)
+            for limits in ranges
+        )
+
     def forget_missing(self, ranges: Ranges) -> None:
+        """Drops the rows of what is missing. Their history stays."""
         with self.transaction():
             for low, high in ranges:
                 self._database.execute(
-                    "DELETE FROM files WHERE path >= ? AND path < ? AND verdict = 'missing'",
+                    "DELETE FROM files WHERE path >= ? AND path < ? AND missing IS NOT NULL",
                     (low, high),
                 )
 
-    def due(self, last: int) -> Iterator[Tuple[int, bytes, int]]:
-        """The files that are to be verified, after this one of them: the number, the path and the
-        size of each. The first has the number 1."""
-        while True:
-            page = self._database.execute(
-                "SELECT rowid, path, size FROM due WHERE rowid > ? ORDER BY rowid LIMIT 1000",
-                (last,),
-            ).fetchall()
-            yield from page
-            if not page:
-                return
-            last = page[-1][0]
+    def due(self, last: int) -> List[Tuple[int, DueFile]]:
+        """Some of the files that are to be verified, after this one of them. The first has the
+        number 1."""
+        rows = self._database.execute(
+            "SELECT rowid, path, size, ctime, device, inode FROM due WHERE rowid > ?"
+            " ORDER BY rowid LIMIT 1000",
+            (last,),
+        )
+        return [(row[0], DueFile(*row[1:])) for row in rows]
+
+    def _count(self, rows: str, *values: Any) -> int:
+        (number,) = self._database.execute(f"SELECT count(*) FROM {rows}", values).fetchone()
+        return int(number)
 
     # ---- verdicts
 
@@ -293,41 +363,47 @@ class Results:
             )
             self._run = cursor.lastrowid
 
-    def put(self, rows: List[Row]) -> None:
-        """Keeps these rows, all or none."""
+    def put(self, rows: List[Row], found: Dict[bytes, DueFile]) -> None:
+        """Keeps what is known of these files now, all or nothing. A file that couldn't be read
+        keeps the verdict that it has."""
         size = sum(row[1] or 0 for row in rows)
         with self.transaction():
-            self._put_right([row[:4] + row[5:7] + row[12:] for row in rows if row[4] == "ok"])
-            self._database.executemany(_PUT + _ROW, (row for row in rows if row[4] != "ok"))
+            self._put_rows((*row, *found[row[0]][2:], path_text(row[0])) for row in rows)
             self._database.execute(
                 "UPDATE runs SET ended = ?, files = files + ?, bytes = bytes + ? WHERE id = ?",
                 (time.time(), len(rows), size, self._run),
             )
 
-    def _put_right(self, rows: List[Tuple[Any, ...]]) -> None:
-        """Puts rows of right files, without the values that are the same for all."""
-        most = _MOST_VALUES // _RIGHT_ROW.count("?")
-        for start in range(0, len(rows), most):
-            chunk = rows[start : start + most]
-            put = _PUT + ", ".join([_RIGHT_ROW] * len(chunk))
-            self._database.execute(put, list(itertools.chain.from_iterable(chunk)))
+    def _put_rows(self, rows: Iterable[Tuple[Any, ...]]) -> None:
+        places = ", ".join("?" * tables.ROW_COLUMNS)
+        self._database.executemany(f"INSERT INTO incoming VALUES ({places})", rows)
+        self._database.execute(tables.PUT_HISTORY, {"run": self._run})
+        self._database.execute(tables.PUT_READ)
+        self._database.execute(tables.PUT_UNREAD)
+        self._database.execute("DELETE FROM incoming")
 
     def last_run(self) -> Optional[Run]:
         """The last run that verified something."""
         row = self._database.execute(
-            "SELECT files, bytes, ended - began FROM runs WHERE files > 0 ORDER BY id DESC LIMIT 1"
+            "SELECT id, began, files, bytes, ended - began FROM runs WHERE files > 0"
+            " ORDER BY id DESC LIMIT 1"
         ).fetchone()
         return Run(*row) if row else None
 
     # ---- reading
+
+    def select(
+        self, statement: str, values: Union[List[Any], Dict[str, Any]]
+    ) -> List[Tuple[Any, ...]]:
+        return self._database.execute(statement, values).fetchall()
 
     def counts(self, ranges: Ranges) -> Dict[str, Due]:
         """How many files there are of each verdict, and their sizes."""
         found: Dict[str, Due] = {}
         for low, high in ranges:
             for verdict, files, size in self._database.execute(
-                "SELECT verdict, count(*), total(size) FROM files WHERE path >= ? AND path < ?"
-                " GROUP BY verdict",
+                f"SELECT {STATE}, count(*), total(size) FROM files"
+                " WHERE path >= ? AND path < ? GROUP BY 1",
                 (low, high),
             ):
                 before = found.get(verdict, Due(0, 0))
@@ -336,19 +412,43 @@ class Results:
 
     def not_right(self, ranges: Ranges) -> Iterator[Dict[str, Any]]:
         """The rows of what isn't right, in order of paths."""
-        return self._rows("verdict <> 'ok'", sorted(ranges))
+        condition = "(verdict <> 'ok' OR unread IS NOT NULL OR missing IS NOT NULL)"
+        return self._rows(condition, sorted(ranges), COLUMNS)
 
-    def _rows(self, condition: str, ranges: Ranges) -> Iterator[Dict[str, Any]]:
-        """Rows in pages: between them others may write."""
+    def _rows(
+        self, condition: str, ranges: Ranges, columns: List[str]
+    ) -> Iterator[Dict[str, Any]]:
+        """Rows in pages, the first column of which is the path: between them others may write."""
         select = (
-            f"SELECT {', '.join(COLUMNS)} FROM files WHERE {condition} AND path >= ? AND path < ?"
-            " ORDER BY path LIMIT 1000"
+            f"SELECT {', '.join(SHOWN[column] for column in columns)} FROM files"
+            f" WHERE {condition} AND path >= ? AND path < ? ORDER BY path LIMIT 1000"
         )
         for low, high in ranges:
             while True:
                 page = self._database.execute(select, (low, high)).fetchall()
                 for row in page:
-                    yield dict(zip(COLUMNS, row))
+                    yield dict(zip(columns, row))
                 if not page:
                     break
                 low = page[-1][0] + b"\0"
+
+
+@contextmanager
+def _temporary() -> Iterator[None]:
+    """For statements that write to temporary tables alone: where there is no room, the error names
+    their folder."""
+    try:
+        yield
+    except sqlite3.OperationalError as error:
+        if "full" not in str(error):
+            raise
+        raise TemporaryError(f"{_temporary_folder()}: no room for SQLite's lists") from error
+
+
+def _temporary_folder() -> str:
+    """Where SQLite puts temporary files: the first of these in which files can be made."""
+    named = [os.environ.get(name, "") for name in ("SQLITE_TMPDIR", "TMPDIR")]
+    for folder in [*named, "/var/tmp", "/usr/tmp", "/tmp"]:
+        if os.path.isdir(folder) and os.access(folder, os.W_OK | os.X_OK):
+            return folder
+    return "."

@@ -1,0 +1,157 @@
+"""The bytes of a stream that are held."""
+import ctypes
+from array import array
+from typing import Generator, Optional, Union
+
+from claxon._calls import CRC_OF_BYTE, MAX_FRAME_BYTES, library
+from claxon._files import Source
+
+FIRST_WINDOW = 1 << 18  # bytes
+
+
+class Window:
+    """Bytes that were read or handed in, and aren't decoded yet.
+
+    It is doubled where a frame doesn't fit, and a frame that isn't whole is tried again where twice
+    the bytes are there, so that the time is linear in the number of bytes. A frame is tried too
+    where the CRC of its bytes is 0, as after its last one.
+    """
+
+    def __init__(self, source: Optional[Source]) -> None:
+        self._source = source
+        self._bytes = array("B", bytes(FIRST_WINDOW))
+        self.address = self._bytes.buffer_info()[0]
+        self.at = ctypes.c_size_t(0)  # where the next frame begins
+        self.end = 0  # the number of bytes in it
+        self.start = 0  # the position in the file of its first byte
+        self.has_ended = False  # whether no more bytes come
+        self.tried = 0  # so many bytes of the next frame aren't a whole one
+        self.guesses = 0  # how often it was tried in vain for its CRC
+        self._summed, self._crc = 0, 0  # the CRC of so many of its bytes
+
+    def position(self) -> int:
+        """The position in the file of the next frame."""
+        return self.start + self.at.value
+
+    def held(self) -> int:
+        """The number of bytes that the next frame may have."""
+        return min(self.end - self.at.value, MAX_FRAME_BYTES)
+
+    def byte(self, position: int) -> int:
+        """The byte at this position in the file, of a frame that was decoded last."""
+        return self._bytes[position - self.start]
+
+    def first_bytes(self) -> bytes:
+        """Some of the first bytes of the next frame."""
+        return self._bytes[self.at.value : min(self.at.value + 4, self.end)].tobytes()
+
+    def begin_frame(self) -> None:
+        """Forgets what is known of the next frame."""
+        self.tried, self.guesses, self._summed, self._crc = 0, 0, 0, 0
+
+    def fill(self, most: int) -> bool:
+        """Reads once, at most so many bytes. False where none come, or not from a file."""
+        if self.has_ended or self._source is None:
+            return False
+        if self.end == len(self._bytes) or self.at.value:
+            size = len(self._bytes)
+            full = self.end - self.at.value == size
+            self._resize(min(2 * size, MAX_FRAME_BYTES) if full else size)
+        part = self._source.read(min(most, len(self._bytes) - self.end))
+        self._put(part)
+        self.has_ended = not part
+        return bool(part)
+
+    def feed(self, data: memoryview) -> None:
+        """Appends bytes. Those that are held are moved where they take half of it or less."""
+        count = self.end - self.at.value + len(data)
+        size = len(self._bytes)
+        if self.end + len(data) > size:
+            self._resize(size if 2 * count <= size else 2 * count)
+        self._put(data)
+
+    def _put(self, part: Union[bytes, memoryview]) -> None:
+        with memoryview(self._bytes) as view:
+            view[self.end : self.end + len(part)] = part
+        self.end += len(part)
+
+    def _resize(self, size: int) -> None:
+        """Drops the bytes before the next frame, and makes it no smaller than this."""
+        at = self.at.value
+        if at:
+            ctypes.memmove(self.address, self.address + at, self.end - at)
+            self.at.value = 0
+            self.start += at
+            self.end -= at
+        if size > len(self._bytes):
+            self._bytes.frombytes(bytes(size - len(self._bytes)))
+            self.address = self._bytes.buffer_info()[0]
+
+    def show(self, count: int) -> Generator[int, None, bytes]:
+        """The same bytes as `take`, which aren't passed."""
+        while self.held() < count and not self.has_ended:
+            yield count - self.held()
+        return self._bytes[self.at.value : min(self.at.value + count, self.end)].tobytes()
+
+    def take(self, count: int) -> Generator[int, None, bytes]:
+        """This number of bytes; fewer where they end. Yields how many more are needed."""
+        parts = []
+        while count:
+            part = self._bytes[self.at.value : min(self.at.value + count, self.end)].tobytes()
+            self.at.value += len(part)
+            parts.append(part)
+            count -= len(part)
+            if count and self.has_ended and self.at.value == self.end:
+                break
+            if count:
+                yield count
+        return b"".join(parts)
+
+    def skip(self, count: int) -> Generator[int, None, bool]:
+        """Passes this number of bytes. False where they end before. Yields as `take`."""
+        while count:
+            part = min(count, self.end - self.at.value)
+            self.at.value += part
+            count -= part
+            if count and self.has_ended:
+                return False
+            # The last byte is read: one can seek past the end of a file.
+            if self._source is not None and count and self._source.passes(count - 1):
+                self.start += count - 1
+                count = 1
+            if count:
+                yield count
+        return True
+
+    def has_footer(self) -> bool:
+        """Whether the CRC is 0 after a byte that wasn't tried. It is summed up to there."""
+        if self._summed < self.tried:
+            start, count = self.address + self.at.value + self._summed, self.tried - self._summed
+            self._crc = library.claxon_crc16(self._crc, start, count)
+            self._summed = self.tried
+        crc, start = self._crc, self.at.value
+        for index, byte in enumerate(self._bytes[start + self._summed : start + self.held()], 1):
+            crc = (crc << 8 & 0xFFFF) ^ CRC_OF_BYTE[crc >> 8 ^ byte]
+            if not crc:
+                self._summed, self._crc = self._summed + index, crc
+                return True
+        self._summed, self._crc = self.held(), crc
+        return False
+
+    def can_seek(self) -> bool:
+        return self._source is not None and self._source.can_seek()
+
+    def length(self) -> int:
+        """The number of bytes of the whole stream. Raises OSError where the file can't seek."""
+        assert self._source is not None
+        return self._source.length(self.start + self.end)
+
+    def go_to(self, position: int) -> None:
+        """Goes to this position in the file. Bytes that are held aren't read again."""
+        assert self._source is not None
+        if not self.start <= position <= self.start + self.end:
+            self.start, self.end = position, 0
+            self._source.go_to(position)
+        self.at.value = position - self.start
+        self.has_ended = False
+        self.begin_frame()
