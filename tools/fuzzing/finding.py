@@ -8,7 +8,7 @@ import pickle
 import resource
 import sys
 from random import Random
-from typing import Any, Counter, Dict, Iterator, List, Optional, Set, Tuple
+from typing import Any, Counter, Dict, Iterator, List, NamedTuple, Optional, Set, Tuple
 
 from fuzzing import mutation, slow_decoder
 from fuzzing.mutation import Pick
@@ -17,7 +17,7 @@ from repository.crates import TOP
 from streams.frames import with_crc8
 
 sys.path.insert(0, str(TOP / "python"))
-import claxon  # noqa: E402
+from claxon import _calls  # noqa: E402
 
 OK, NO_MORE, TOO_SMALL, OVER_BUDGET = 0, 5, 6, 7
 ANSWERS = {
@@ -33,10 +33,10 @@ UNTOUCHED_SAMPLE = 0x12345678
 
 # Those of claxon_seek, but for room for samples before the block.
 BLOCK_ARGUMENTS: List[Any] = [
-    *claxon._library.claxon_seek.argtypes[:-1],
+    *_calls.library.claxon_seek.argtypes[:-1],
     ctypes.c_void_p,
     ctypes.c_size_t,
-    ctypes.POINTER(claxon._Block),
+    ctypes.POINTER(_calls.Block),
 ]
 
 
@@ -49,6 +49,10 @@ class Place:
     header: Optional[FrameHeader]  # None where the bytes end within it
     length: int = 0  # the number of bytes of the frame, if it is there
     samples: Tuple[int, ...] = ()  # then its samples, interleaved
+    # As many bytes are read in vain where a header begins no whole frame: the slow decoder says it
+    # of frames that are cut alone.
+    least: int = 0
+    most: int = 0
     is_cut: bool = False  # whether the bytes end within the header or the frame
     may_follow: bool = False  # whether more bytes can make a frame of the stream
 
@@ -112,9 +116,10 @@ def place_at(data: bytes, at: int, streaminfo: Optional[StreamInfo]) -> Optional
         )
         return Place(at, header, frame.length, samples)
     except Incomplete:
-        return Place(at, header, is_cut=True, may_follow=True)
+        left = len(data) - at
+        return Place(at, header, least=left, most=left, is_cut=True, may_follow=True)
     except Fault:
-        return Place(at, header)
+        return Place(at, header, least=header.length, most=len(data) - at)
 
 
 def places_of(data: bytes, streaminfo: Optional[StreamInfo]) -> List[Place]:
@@ -138,21 +143,39 @@ def block_of(place: Place, data: bytes, streaminfo: Optional[StreamInfo]) -> Fie
     return time, header.channels, header.block_size, header.sample_rate or 0, bits
 
 
-def walk(places: List[Place], budget: int) -> Tuple[int, Optional[Place], int]:
+class Left(NamedTuple):
+    """What is left of a budget."""
+
+    least: int
+    most: int
+
+    def less(self, place: Place) -> "Left":
+        """After the try of a header whose block has no more samples."""
+        assert place.header is not None
+        samples = samples_of(place.header)
+        return Left(
+            max(0, self.least - samples - place.most), max(0, self.most - samples - place.least)
+        )
+
+
+def walk(places: List[Place], budget: int) -> Optional[Tuple[int, Optional[Place], Left]]:
     """The status of a search through these places, the place where it ends, and what is left of
-    the budget."""
+    the budget; or None where this depends on how many bytes were read in vain."""
+    left = Left(budget, budget)
     for place in places:
         if place.header is None:
             continue
-        if samples_of(place.header) > budget:
-            return OVER_BUDGET, place, budget
-        budget -= samples_of(place.header)
+        if samples_of(place.header) > left.most:
+            return OVER_BUDGET, place, left
+        if samples_of(place.header) > left.least:
+            return None
+        left = left.less(place)
         if place.length:
-            return OK, place, budget
-    return NO_MORE, None, budget
+            return OK, place, left
+    return NO_MORE, None, left
 
 
-def fields_of(block: claxon._Block) -> Fields:
+def fields_of(block: _calls.Block) -> Fields:
     return block.time, block.channels, block.duration, block.sample_rate, block.bits_per_sample
 
 
@@ -162,15 +185,15 @@ class Searched:
     and its places."""
 
     data: bytes
-    info: claxon._Info
+    info: _calls.Info
     streaminfo: Optional[StreamInfo]
     places: List[Place]
     outcomes: Counter[str] = dataclasses.field(default_factory=collections.Counter)
 
     def find(self, start: int, budget: int) -> Tuple[int, int, int, Fields]:
         """The answer of claxon_find_frame: status, position, budget and block."""
-        at, left, block = ctypes.c_size_t(start), ctypes.c_uint64(budget), claxon._Block(*UNTOUCHED)
-        status = claxon._library.claxon_find_frame(
+        at, left, block = ctypes.c_size_t(start), ctypes.c_uint64(budget), _calls.Block(*UNTOUCHED)
+        status = _calls.library.claxon_find_frame(
             self.data, len(self.data), at, self.info, left, block
         )
         self.outcomes[f"claxon_find_frame: {ANSWERS.get(status, status)}"] += 1
@@ -178,8 +201,8 @@ class Searched:
 
     def seek(self, sample: int, budget: int) -> Tuple[int, int, Fields]:
         """The answer of claxon_seek: status, position and block."""
-        at, block = ctypes.c_size_t(UNLIMITED - 1), claxon._Block(*UNTOUCHED)
-        status = claxon._library.claxon_seek(
+        at, block = ctypes.c_size_t(UNLIMITED - 1), _calls.Block(*UNTOUCHED)
+        status = _calls.library.claxon_seek(
             self.data, len(self.data), self.info, sample, budget, at, block
         )
         self.outcomes[f"claxon_seek: {ANSWERS.get(status, status)}"] += 1
@@ -190,9 +213,9 @@ class Searched:
     ) -> Tuple[int, int, Fields, Tuple[int, ...]]:
         """The answer of claxon_seek_block with room for so many samples: status, position, block
         and samples, of which one more could be written."""
-        at, block = ctypes.c_size_t(UNLIMITED - 1), claxon._Block(*UNTOUCHED)
+        at, block = ctypes.c_size_t(UNLIMITED - 1), _calls.Block(*UNTOUCHED)
         samples = (ctypes.c_int32 * (count + 1))(*(count + 1) * [UNTOUCHED_SAMPLE])
-        call = claxon._library.claxon_seek_block
+        call = _calls.library.claxon_seek_block
         call.argtypes, call.restype = BLOCK_ARGUMENTS, ctypes.c_uint32
         status = call(
             self.data, len(self.data), self.info, sample, budget, at, samples, count, block
@@ -203,11 +226,14 @@ class Searched:
     def against_find(self, start: int, budget: int) -> Optional[str]:
         """How the answer of claxon_find_frame differs, or None."""
         places = [place for place in self.places if place.at >= start]
-        status, place, left = walk(places, budget)
+        walked = walk(places, budget)
         found, at, found_left, block = self.find(start, budget)
+        if walked is None:
+            return None
+        status, place, left = walked
         if found != status:
             return f"find: status {found}, expected {status}"
-        if found_left != left:
+        if not left.least <= found_left <= left.most:
             return "find: another budget"
         if place is None:
             is_untouched = block == UNTOUCHED
@@ -240,12 +266,11 @@ class Searched:
             if place.at >= self.info.first_frame and self.has_sample(place, sample)
         ]
         frames = {place.at: place for place in places if place.length}
-        status = walk(places, budget)[0]
         found, at, block = self.seek(sample, budget)
         if found != OK:
             if (at, block) != (UNLIMITED - 1, UNTOUCHED):
                 return f"seek: something was changed, status {found}"
-            return None if found == status else f"seek: status {found}, expected {status}"
+            return None if self.may_end(found, places, budget) else f"seek: status {found}"
         if at not in frames:
             return "seek: no such frame"
         return (
@@ -253,6 +278,15 @@ class Searched:
             if block == block_of(frames[at], self.data, self.streaminfo)
             else "seek: another block"
         )
+
+    def may_end(self, status: int, places: List[Place], budget: int) -> bool:
+        """Whether claxon_seek may find none: there is none, or headers that begin no frame cost
+        more than the budget."""
+        if status == NO_MORE:
+            return not any(place.length for place in places)
+        in_vain = [place for place in places if not place.length]
+        most = sum(samples_of(place.header) + place.most for place in in_vain if place.header)
+        return status == OVER_BUDGET and most > budget
 
     def against_seek_block(self, sample: int, budget: int) -> Optional[str]:
         """How the answers of claxon_seek_block differ from that of claxon_seek and the samples
@@ -293,11 +327,11 @@ def head_of(data: bytes) -> Tuple[Optional[StreamInfo], Optional[int]]:
     return streaminfo, first_frame
 
 
-def opened(data: bytes) -> Tuple[Optional[claxon._Info], Optional[StreamInfo], Optional[str]]:
+def opened(data: bytes) -> Tuple[Optional[_calls.Info], Optional[StreamInfo], Optional[str]]:
     """What claxon_open and the slow decoder say of a stream, two None where both refuse it, and
     how they differ, or None."""
-    info, error = claxon._Info(), ctypes.create_string_buffer(128)
-    status = claxon._library.claxon_open(data, len(data), info, error, 128)
+    info, error = _calls.Info(), ctypes.create_string_buffer(128)
+    status = _calls.library.claxon_open(data, len(data), info, error, 128)
     streaminfo, first_frame = head_of(data)
     if (status == OK) != (streaminfo is not None):
         return None, None, f"another head: status {status}"
@@ -311,12 +345,13 @@ def opened(data: bytes) -> Tuple[Optional[claxon._Info], Optional[StreamInfo], O
 
 
 def budgets_of(rng: Random, places: List[Place]) -> List[int]:
-    """No limit, none at all, and as many samples as some headers have, or one less."""
+    """No limit, none at all, and what some headers cost, or one less."""
     total, sums = 0, []
     for place in places:
         if place.header is not None:
             total += samples_of(place.header)
             sums += [total, total - 1]
+            total += place.most
     return [UNLIMITED, 0, *rng.sample(sums, min(4, len(sums)))]
 
 
@@ -392,7 +427,7 @@ def compare(rng: Random, data: bytes) -> Tuple[List[str], Counter[str]]:
     info, streaminfo, wrong = opened(data)
     kinds: Set[str] = {wrong} if wrong else set()
     outcomes: Counter[str] = collections.Counter()
-    for known, says in ((info, streaminfo), (claxon._Info(), None)):
+    for known, says in ((info, streaminfo), (_calls.Info(), None)):
         if known is None:
             continue
         searched = Searched(data, known, says, places_of(data, says))

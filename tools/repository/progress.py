@@ -34,6 +34,13 @@ class Progress:
         self.clear()
         print(f"{self.name}: {text}", file=sys.stderr, flush=True)
 
+    def say_end_of(self, log: Path) -> None:
+        """Says where the toolchain's words are, and the last of them."""
+        self.say(f"what the toolchain said is in {log}, and ends so:")
+        lines = log.read_text(errors="replace").splitlines()
+        for line in (line for line in lines[-20:] if not SO_FAR.match(line)):
+            print(f"    {line}", file=sys.stderr, flush=True)
+
     def elapsed(self) -> str:
         seconds = int(time.time() - self.started)
         return f"{seconds // 60}:{seconds % 60:02}"

@@ -27,6 +27,7 @@ from repository.crates import (
     write_record,
 )
 from repository.progress import Progress
+from repository.proved_lines import keep_line
 
 SIGNALS = (signal.SIGHUP, signal.SIGINT, signal.SIGTERM)
 # Each job of a check may take so much memory, and more than four for a crate gain little.
@@ -34,9 +35,27 @@ BYTES_OF_JOB = 2_000_000_000
 MOST_JOBS = 4
 
 
+# The limit of a control group, and what it uses: of version 2, and of version 1.
+GROUPS = (
+    ("/sys/fs/cgroup/memory.max", "/sys/fs/cgroup/memory.current"),
+    (
+        "/sys/fs/cgroup/memory/memory.limit_in_bytes",
+        "/sys/fs/cgroup/memory/memory.usage_in_bytes",
+    ),
+)
+
+
 def free_memory() -> int:
+    """The free memory in bytes, also under the limit of a control group, as a container has it."""
     found = re.search(r"^MemAvailable: *(\d+) kB$", Path("/proc/meminfo").read_text(), re.MULTILINE)
-    return 1024 * int(found[1]) if found else 0
+    free = [1024 * int(found[1]) if found else 0]
+    for limit, used in GROUPS:
+        try:
+            free.append(int(Path(limit).read_text()) - int(Path(used).read_text()))
+        except (OSError, ValueError):
+            # There is no such group, or the limit is the word `max`.
+            continue
+    return min(free)
 
 
 class Jobs:
@@ -250,14 +269,16 @@ class Builder:
         if run.top != TOP:
             self.copies.take(run.crate, run.top)
         if run.process.returncode == 0:
-            built = built_file(run.crate)
-            write_record(built, self.toolchain, self.sums[run.crate.name])
+            sums = self.sums[run.crate.name]
+            write_record(built_file(run.crate), self.toolchain, sums)
+            keep_line(run.crate, "", self.toolchain, run.log.read_text(errors="replace"), sums)
             return
         self.failed = True
         what = f"{run.crate.name} isn't proved"
         if run.crate.is_program:
             what = "the build or its trial run failed"
-        self.progress.say(f"{what}: what the toolchain said is in {run.log}")
+        self.progress.say(what)
+        self.progress.say_end_of(run.log)
 
     def wait_for_all(self) -> None:
         while self.running:
@@ -278,10 +299,6 @@ class Builder:
     def run_program(self, arguments: Sequence[str]) -> None:
         """Proves and builds a program, and runs it as a trial."""
         self.start(self.crate, TOP, ["run", "--", *arguments], self.jobs.of_one, 0)
-        self.wait_for_all()
-
-    def build_static_library(self) -> None:
-        self.start(self.crate, TOP, ["lib"], self.jobs.of_one, 0)
         self.wait_for_all()
 
     def stop(self, number: int) -> NoReturn:

@@ -20,6 +20,7 @@ BLOCK_NOTE = "a block size is out of the streaminfo's bounds"
 FRAME_NOTE = "a frame size is out of the streaminfo's bounds"
 BYTE_NOTE, MD5_NOTE, LENGTH_NOTE = "1 byte after the last frame", "no MD5 sum", "unknown length"
 STRATEGY = "the blocking strategy differs from the first frame's"
+WIDE_SAMPLE = "a sample has more bits than the streaminfo says"
 WRONG_MD5 = "but their MD5 sum isn't that of the streaminfo"
 # The first byte of a place and that after it, the first sample and that after it, and what is
 # wrong.
@@ -119,13 +120,15 @@ def flipped(data: bytes, positions: Iterable[int], bit: int = 1) -> bytes:
 
 @dataclasses.dataclass
 class Row:
-    """A stream, and what is to be said of it: the line without the name, and the parts of the
-    JSON object. Without `counts` there are no frames, but a reason."""
+    """A stream, and what is to be said of it: the line without the name, the first place as a
+    brief line has it, and the parts of the JSON object. Without `counts` there are no frames, but a
+    reason."""
 
     name: str
     data: bytes
     line: str
     counts: Optional[Tuple[int, int]] = None
+    first_place: str = ""
     places: Tuple[Place, ...] = ()
     md5: str = "ok"
     notes: Tuple[str, ...] = ()
@@ -150,7 +153,7 @@ class Row:
         return lines
 
     def text(self, shown_name: str, is_brief: bool = False) -> str:
-        lines = [self.line] + ([] if is_brief else self.place_lines())
+        lines = [self.line + self.first_place] if is_brief else [self.line, *self.place_lines()]
         return "".join(f"{shown_name}: {line}\n" for line in lines)
 
     def json(self, name: str, computes_md5: bool = True) -> Dict[str, Any]:
@@ -204,18 +207,27 @@ def wrong(
     *places: Place,
     said: Optional[int] = None,
     notes: Tuple[str, ...] = (),
+    unsupported: Optional[str] = None,
     **members: Any,
 ) -> Row:
     """A row of a stream with these places. `said` is the number of samples in the streaminfo, where
-    it is another one. Where neither is wrong, the MD5 sum is."""
+    it is another one, and `unsupported` what isn't supported of a metadata block. Where neither
+    places nor the number are wrong, the MD5 sum is."""
     parts = [] if said is None else [f"but the streaminfo says {said}"]
+    first_place = ""
+    if not places and said is None:
+        parts.append(WRONG_MD5)
+    if unsupported is not None:
+        parts.append(f"not supported: {unsupported}")
+        notes += (f"not supported: {unsupported}",)
     if places:
         start, _, first, _, what = places[0]
-        where = "1 place at" if len(places) == 1 else f"{len(places)} places, the first at"
-        parts.append(f"{where} byte {start} after {first} samples: {what}")
-    line = line_of("wrong", counts, *(parts or [WRONG_MD5]))
+        parts.append("1 place" if len(places) == 1 else f"{len(places)} places")
+        before = "" if len(places) == 1 else ", the first"
+        first_place = f"{before} at byte {start} after {first} samples: {what}"
+    line = line_of("wrong", counts, *parts)
     members.setdefault("md5", "none" if MD5_NOTE in notes else "wrong")
-    return Row(name, data, line, counts, places, notes=notes, **members)
+    return Row(name, data, line, counts, first_place, places, notes=notes, **members)
 
 
 def refused(name: str, data: bytes, verdict: str, reason: str) -> Row:
@@ -235,6 +247,27 @@ def right_rows() -> Iterator[Row]:
     yield right("a block that is too large", last, notes=(BLOCK_NOTE,))
     short = head(18, md5_of([1], size=18)) + frame(0, 1) + frame(1, 1, 2)
     yield right("a short last block", short, (2, 18))
+    for sizes, is_out, other in (
+        ((16, 32, 16), True, 32),
+        ((16, 8, 32, 16), True, 8),
+        ((8, 16, 16), True, 16),
+        ((16, 16, 32), True, None),
+        ((8, 16), True, None),
+        ((16, 16, 8), False, None),
+    ):
+        blocks = [[[number] * size] for number, size in enumerate(sizes)]
+        data = head(sum(sizes), writer.md5_of(blocks, 8)) + b"".join(
+            frame(number, number, size) for number, size in enumerate(sizes)
+        )
+        notes = (BLOCK_NOTE,) if is_out else ()
+        if other:
+            notes += (f"the fixed block size changes from {sizes[0]} to {other}",)
+        name = "blocks of " + ", ".join(map(str, sizes))
+        yield right(name, data, (len(sizes), sum(sizes)), notes=notes)
+    data = head(64, md5_of([1], size=64)) + b"".join(
+        frame(first, 1, count, is_variable=True) for first, count in ((0, 16), (16, 32), (48, 16))
+    )
+    yield right("variable blocks of other sizes", data, (3, 64), notes=(BLOCK_NOTE,))
     outside = (12, 0), (0, 10), (5, 10), (12, 13)
     for sizes in (*outside, (11, 11), (0, 11), (11, 0), (1, 20)):
         where = "out of" if sizes in outside else "within"
@@ -347,6 +380,57 @@ def format_rows() -> Iterator[Row]:
         (53, 64, 16, 32, "48000 Hz, but the streaminfo says 44100"),
         md5="ok",
     )
+
+
+def wide_frame(number: int, sample: int) -> bytes:
+    """A frame of 16 samples of 9 bits, in a stream of 8 bits. It has 30 bytes."""
+    header = writer.frame_header(
+        16, 0, writer.BIT_DEPTH_CODES[8], writer.RATE_CODES[44100], number, is_small=True
+    )
+    residual = writer.bits_of(0, 6) + writer.escaped_partition([sample] * 16, 9, 4)
+    return writer.frame(header, [writer.subframe_header(8) + residual])
+
+
+def wide_rows() -> Iterator[Row]:
+    """Frames in order, with samples that don't fit in the bit depth, or are the least or the
+    greatest that do. The MD5 sums are those of the samples' lowest bytes."""
+    first, last = frame(0, 1), frame(2, 3)
+    for sample in 128, 200, 255, -129, -256:
+        yield wrong(
+            f"a sample of {sample} in 8 bits",
+            head(48, md5_of([1, sample, 3])) + first + wide_frame(1, sample) + last,
+            (3, 48),
+            (53, 83, 16, 32, WIDE_SAMPLE),
+            md5="ok",
+        )
+    for sample in 127, -128:
+        data = head(48, md5_of([1, sample, 3])) + first + wide_frame(1, sample) + last
+        yield right(f"a sample of {sample} in 8 bits", data, (3, 48))
+    yield wrong(
+        "wide samples in two frames",
+        head(48, md5_of([200, 201, 3])) + wide_frame(0, 200) + wide_frame(1, 201) + last,
+        (3, 48),
+        (42, 102, 0, 32, WIDE_SAMPLE),
+        md5="ok",
+    )
+    pair = Format(bits=16, channels=2)
+    header = writer.frame_header(16, 8, writer.BIT_DEPTH_CODES[16], 9, is_small=True)
+    for name, side in ("right of -98303", 65535), ("right of -32768", 0):
+        block = [[-32768] * 16, [-32768 - side] * 16]
+        data = head(16, writer.md5_of([block], 16), pair)
+        subframes = writer.constant(-32768, 16), writer.constant(side, 17)
+        data += writer.frame(header, subframes)
+        if side:
+            place = 42, len(data), 0, 16, WIDE_SAMPLE
+            yield wrong(name, data, (1, 16), place, md5="ok", stream=pair)
+        else:
+            yield right(name, data, (1, 16), stream=pair)
+    deep = Format(bits=32)
+    for sample in 2**31 - 1, -(2**31):
+        header = writer.frame_header(16, rate_code=9, is_small=True)
+        data = head(16, md5_of([sample], deep), deep)
+        data += writer.frame(header, [writer.constant(sample, 32)])
+        yield right(f"a sample of {sample} in 32 bits", data, (1, 16), stream=deep)
 
 
 def sum_rows() -> Iterator[Row]:
@@ -485,9 +569,11 @@ def head_rows() -> Iterator[Row]:
     """Streams that are refused before a frame, or because of what isn't supported."""
     yield refused("an empty file", b"", "wrong", CUT_HEAD)
     yield refused("41 bytes", TWO[:41], "wrong", CUT_HEAD)
-    marker = "Ill-formed FLAC stream: invalid stream header"
-    yield refused("another marker", b"fLaD" + TWO[4:], "wrong", marker)
+    yield refused("another marker", b"fLaD" + TWO[4:], "wrong", "not a FLAC file")
     unsupported, tag = "not supported", "an ID3v2 tag in front of the stream"
+    # RFC 3533, section 6; ISO/IEC 14496-12, section 4.3.
+    yield refused("a page of Ogg", b"OggS\0\2" + bytes(20) + TWO, unsupported, "an Ogg file")
+    yield refused("a box of MP4", b"\0\0\0\x18ftypM4A " + TWO, unsupported, "an MP4 file")
     yield refused("an ID3v2 tag", b"ID3\4" + bytes(6) + TWO, unsupported, tag)
     for rate in 0, 655351, 2**20 - 1:
         data = numbered([0, 1], stream=Format(rate=rate), frames=PLAIN)
@@ -508,15 +594,73 @@ def head_rows() -> Iterator[Row]:
             head(16, bytes(16), stream) + data,
             f"{unsupported}, {reason}",
             (0, 0),
-            ((42, 42 + len(data), 0, 0, f"{before}{reason} are not supported"),),
-            md5="none",
+            places=((42, 42 + len(data), 0, 0, f"{before}{reason} are not supported"),),
+            md5="not computed",
             notes=(MD5_NOTE,),
             reason=reason,
             stream=stream,
         )
 
 
+def comments(vendor: bytes, *tags: bytes, left: bytes = b"") -> bytes:
+    """A Vorbis comment block."""
+    texts = [struct.pack("<I", len(text)) + text for text in (vendor, *tags)]
+    content = texts[0] + struct.pack("<I", len(tags)) + b"".join(texts[1:]) + left
+    return b"\4" + struct.pack(">I", len(content))[1:] + content
+
+
+def with_blocks(data: bytes, *blocks: bytes) -> bytes:
+    """The stream with these blocks after its streaminfo, and padding after them."""
+    padding = b"\x81\0\0\1\0"
+    return data[:4] + b"\0" + data[5:42] + b"".join(blocks) + padding + data[42:]
+
+
+def passed_over(name: str, reason: str, *blocks: bytes) -> Iterator[Row]:
+    """Streams with metadata blocks that `flac -t` accepts and claxon refuses: right and damaged."""
+    data = with_blocks(TWO, *blocks)
+    yield Row(name, data, f"not supported, {reason}", (2, 32), reason=reason)
+    start = len(data) - 22
+    damaged = flipped(data, [start + 10])
+    place = start, start + 11, 0, 16, CRC
+    yield wrong(f"{name}, damaged", damaged, (1, 16), place, said=32, unsupported=reason)
+
+
+def block_rows() -> Iterator[Row]:
+    """Streams with comments, and with metadata blocks that are passed over."""
+    yield right("comments", with_blocks(TWO, comments(b"vendor", b"A=b", b"C=")))
+    name = "a tag's name with a byte other than 0x20 to 0x7d"
+    text, second = "a tag or vendor string that isn't UTF-8", "a second Vorbis comment block"
+    cases: List[Tuple[str, str, List[bytes]]] = [
+        ("a tilde", name, [comments(b"", b"A~=b")]),
+        ("another letter in a name", name, [comments(b"", "Ä=b".encode())]),
+        ("no separator", "a tag without '='", [comments(b"", b"Ab")]),
+        ("a tag in Latin-1", text, [comments(b"", b"A=\xe4")]),
+        ("a vendor in Latin-1", text, [comments(b"\xe4")]),
+        ("bytes left", "bytes after the last tag", [comments(b"", b"A=b", left=b"\0\1")]),
+        ("two blocks", second, [comments(b""), comments(b"", b"A=b")]),
+        ("a tilde in the second", name, [comments(b""), comments(b"", b"~=b")]),
+    ]
+    for what, reason, blocks in cases:
+        yield from passed_over(what, reason, *blocks)
+    data = with_blocks(numbered([0, 1], md5=b"\1" * 16), comments(b"", b"A"))
+    yield wrong("no separator, another sum", data, (2, 32), unsupported="a tag without '='")
+
+
+def large_rows() -> Iterator[Row]:
+    """Streams with metadata blocks of more than 10 MiB, which are passed over."""
+    content = bytes(10 * 2**20 + 1)
+    comment_block = comments(b"", b"A=" + content)
+    yield from passed_over(
+        "large comments", "Vorbis comment blocks larger than 10 MiB", comment_block
+    )
+    application = b"\2" + struct.pack(">I", len(content))[1:] + content
+    yield from passed_over(
+        "a large application", "application blocks larger than 10 MiB", application
+    )
+
+
 def rows() -> Iterator[Row]:
-    parts = (right_rows, order_rows, strategy_rows, format_rows, sum_rows, trailing_rows)
-    for part in (*parts, fault_rows, head_rows):
+    """All but those of `large_rows`."""
+    parts = right_rows, order_rows, strategy_rows, format_rows, wide_rows, sum_rows
+    for part in (*parts, trailing_rows, fault_rows, head_rows, block_rows):
         yield from part()
