@@ -489,7 +489,7 @@ def trailing_rows() -> Iterator[Row]:
         "a flipped bit in the last frame, and a tag",
         flipped(THREE, [72]) + tag,
         (2, 32),
-        (64, 203, 32, 32, CRC),
+        (64, 203, 32, 48, CRC),
         said=48,
     )
     yield wrong(
@@ -501,6 +501,17 @@ def trailing_rows() -> Iterator[Row]:
     )
 
 
+def negative_shift_frame(number: int, sample: int) -> bytes:
+    """A frame of 16 equal samples by a linear predictor of order 1, whose shift is -1. It has 17
+    bytes, of which 11 are read up to the shift."""
+    header = writer.frame_header(
+        16, 0, writer.BIT_DEPTH_CODES[8], writer.RATE_CODES[44100], number, is_small=True
+    )
+    predictor = writer.bits_of(sample, 8) + writer.linear_predictor([1], 7, -1)
+    residual = writer.bits_of(0, 6) + writer.rice_partition([0] * 15, 0, 4)
+    return writer.frame(header, [writer.subframe_header(32) + predictor + residual])
+
+
 def fault_rows() -> Iterator[Row]:
     """Frames that can't be decoded."""
     places = [
@@ -509,7 +520,7 @@ def fault_rows() -> Iterator[Row]:
     ]
     data = flipped(numbered(range(21)), [place[0] + 8 for place in places])
     yield wrong("ten flipped bits", data, (11, 176), *places, said=336)
-    first, last = (42, 53, 0, 16, CRC), (64, 75, 32, 32, CRC)
+    first, last = (42, 53, 0, 16, CRC), (64, 75, 32, 48, CRC)
     for name, position, place in (
         ("the first frame", 50, first),
         ("the middle", 61, (53, 64, 16, 32, CRC)),
@@ -542,7 +553,7 @@ def fault_rows() -> Iterator[Row]:
         "a flipped bit of a sync code, odd frames",
         flipped(THREE, [53]),
         (1, 16),
-        (53, 75, 16, 16, SYNC),
+        (53, 75, 16, 48, SYNC),
         said=48,
     )
     # The code of 24 bits becomes that of 32 bits: the frame is damaged, since the stream has 24
@@ -552,14 +563,17 @@ def fault_rows() -> Iterator[Row]:
         "a flipped bit of a bit depth code",
         flipped(numbered([0, 1], stream=deep), [55 + 3], bit=2),
         (1, 16),
-        (55, 68, 16, 16, DEEP_SAMPLES + " are not supported"),
+        (55, 68, 16, 32, DEEP_SAMPLES + " are not supported"),
         said=32,
         stream=deep,
     )
+    data = numbered([0], of=3) + negative_shift_frame(1, 2) + frame(2, 3)
+    shift = "Ill-formed FLAC stream: negative linear predictor coefficient shift"
+    yield wrong("a negative shift", data, (2, 32), (53, 70, 16, 32, shift), said=48)
     data = numbered([0]) + b"bytes!" + frame(1, 2)
     yield wrong("bytes between frames", data, (2, 32), (53, 59, 16, 16, SYNC), said=16)
     for length in 55, 58, 63:
-        place = 53, length, 16, 16, CUT
+        place = 53, length, 16, 32, CUT
         yield wrong(f"cut at byte {length}", TWO[:length], (1, 16), place, said=32)
     yield wrong("cut between frames", TWO[:53], (1, 16), said=32)
     yield wrong("cut after a byte of a frame", TWO[:54], (1, 16), said=32, notes=(BYTE_NOTE,))
@@ -594,7 +608,7 @@ def head_rows() -> Iterator[Row]:
             head(16, bytes(16), stream) + data,
             f"{unsupported}, {reason}",
             (0, 0),
-            places=((42, 42 + len(data), 0, 0, f"{before}{reason} are not supported"),),
+            places=((42, 42 + len(data), 0, 16, f"{before}{reason} are not supported"),),
             md5="not computed",
             notes=(MD5_NOTE,),
             reason=reason,

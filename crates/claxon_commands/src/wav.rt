@@ -14,6 +14,7 @@ use claxon_command_line::messages::{Part, print_error, print_message};
 use claxon_command_line::names::not_utf8_name;
 use claxon_command_line::progress::Progress;
 use claxon_command_line::text::count_text;
+use claxon_verdict::text::frame_text;
 use claxon_wav::{Conversion, Error, Plan, Result, write_file, write_stream};
 use std::alloc::{AllocError, Global};
 use std::fs::OpenFile;
@@ -250,7 +251,9 @@ fn print_conversion_error<E: Write>(
     errors: &mut E,
 ) {
     match error {
-        Error::Claxon(error) => print_error(alloc, from, Part::Frame, &error, errors),
+        Error::Claxon(error) => {
+            print_message(alloc, from, Part::Frame, frame_text(alloc, &error), errors);
+        }
         Error::Output(cause) => {
             let error = claxon::Error::IoError(cause);
             print_error(alloc, to, Part::Output, &error, errors);

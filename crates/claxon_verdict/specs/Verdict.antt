@@ -31,6 +31,7 @@ use Rattle.claxon.specs.Errors.TheVariants.{FormatError, IoError, OutOfMemory, U
 use Rattle.claxon.specs.Fault.{
   Id3Header,
   SampleRate as SampleRateFault,
+  ShiftNegative,
   SideTooWide,
   StreamMarker,
 }
@@ -199,12 +200,19 @@ pub record HeadErrorTextIsSound {A : Type 0} (error : Error) (r : Result (String
   pub other_file : IsFault StreamMarker error → IsText (codes "not a FLAC file") r
   pub else_error_text : (IsFault StreamMarker error → ⊥) → ErrorTextIsSound Head error r
 
--- Of a frame that isn't decoded an Ok says that 32-bit samples aren't supported where it is refused
--- for them, or else has the error's text.
+-- Of a frame an Ok says that a shift is negative, which the format forbids (RFC 9639, section
+-- 9.2.6), or else has the error's text.
+pub record FrameTextIsSound {A : Type 0} (error : Error) (r : Result (String A) AllocError)
+    : Type 0 where
+  pub negative_shift : IsFault ShiftNegative error
+      → IsText (codes "Ill-formed FLAC stream: negative linear predictor coefficient shift") r
+  pub else_error_text : (IsFault ShiftNegative error → ⊥) → ErrorTextIsSound Frame error r
+
+-- The same, or that 32-bit samples aren't supported where the frame is refused for them.
 abbrev pub FrameErrorTextIsSound : {A : Type 0} → FrameError → Result (String A) AllocError → Type 0
 FrameErrorTextIsSound fault r =
     when fault.is_32_bit then IsText (codes "32-bit samples are not supported") r
-    else ErrorTextIsSound Frame fault.error r
+    else FrameTextIsSound fault.error r
 
 -- frames, or samples where the block size is variable
 abbrev pub counted_thing : Bool → List ℕ

@@ -1,10 +1,11 @@
 //! What is printed of a file that was verified, as text.
 ghost use Rattle.std.specs.Prelude.{◌≡◌, ◌↔◌, IsTrue};
 ghost use Rattle.claxon.specs.Error.{IsFault};
-ghost use Rattle.claxon.specs.Fault.{StreamMarker};
+ghost use Rattle.claxon.specs.Fault.{ShiftNegative, StreamMarker};
 ghost use Rattle.claxon_verdict.specs.Verdict.{
   DamageTextIsSound,
   FrameErrorTextIsSound,
+  FrameTextIsSound,
   HeadErrorTextIsSound,
   gap_text,
   size_note,
@@ -28,6 +29,10 @@ use std::alloc::{AllocError, Global};
 
 #[cfg(test)]
 mod tests;
+
+// The decoder's text, which is that of claxon 0.4.3.
+const NEGATIVE_SHIFT: &str =
+    "a negative quantized linear predictor coefficient shift is not supported, please file a bug.";
 
 /// The line of a file with a report, without its name. If it `is_brief` it has the first place, which else has its own line.
 pub fn verdict_text(
@@ -306,7 +311,27 @@ fn frame_error_text(alloc: Global, fault: &FrameError) -> Result<String, AllocEr
     if fault.is_32_bit {
         return String::from_str(alloc, UNSUPPORTED_32_BIT);
     }
-    error_text(alloc, Part::Frame, &fault.error)
+    frame_text(alloc, &fault.error)
+}
+
+/// The text of an error of a frame, as `error_text` has it, but for one that asks the reader to file a bug.
+pub fn frame_text(alloc: Global, error: &Error) -> Result<String, AllocError>
+    ensures is_sound { FrameTextIsSound error.now result }
+{
+    if is_negative_shift(error) {
+        return String::from_str(
+            alloc,
+            "Ill-formed FLAC stream: negative linear predictor coefficient shift",
+        );
+    }
+    error_text(alloc, Part::Frame, error)
+}
+
+// Whether the error says that a shift of a linear predictor is negative.
+fn is_negative_shift(error: &Error) -> bool
+    ensures { IsTrue result ↔ IsFault ShiftNegative error.now }
+{
+    matches!(error, Error::Unsupported(NEGATIVE_SHIFT))
 }
 
 fn push_count(

@@ -251,6 +251,7 @@ fn walk_frames<R: ReadBytes, A: Allocator + Copy, E: Write>(
 {
     let mut walk = Walk::new(alloc, computes_md5);
     let mut buffer = Vec::new(alloc);
+    let expected = info.samples.unwrap_or(0);
     for _ in 0..u64::MAX {
         let start = input.value().bytes;
         let read = read_frame(input, info, buffer);
@@ -261,10 +262,13 @@ fn walk_frames<R: ReadBytes, A: Allocator + Copy, E: Write>(
                 progress.show(walk.samples);
                 buffer = frame.block.into_buffer();
             }
-            Ok(None) => return Ok(at_end(walk, ByteRange { start, end }, input.value().last)),
+            Ok(None) => {
+                let last = input.value().last;
+                return Ok(at_end(walk, ByteRange { start, end }, last, expected));
+            }
             Err(fault) => {
                 let is_last = is_io_error(&fault.error);
-                walk = with_fault(walk, fault, ByteRange { start, end })?;
+                walk = with_fault(walk, fault, ByteRange { start, end }, expected)?;
                 if is_last {
                     return Ok(walk);
                 }

@@ -92,8 +92,8 @@ impl<A: Allocator> PlacesSoFar<A> {
         }
     }
 
-    /// The bytes from this one on, up to another, belong to the fault before them, if there is one.
-    pub fn longer(self, start: u64, end: u64) -> PlacesSoFar<A>
+    /// The bytes from this one on, up to another, and the samples up to this one belong to the fault before them, if there is one.
+    pub fn longer(self, start: u64, end: u64, sample: u64) -> PlacesSoFar<A>
         ensures keeps_first_place { KeepsFirstPlace (first_place self) (first_place result) }
         ensures keeps_count { count_so_far result ≡ count_so_far self }
     {
@@ -101,6 +101,7 @@ impl<A: Allocator> PlacesSoFar<A> {
         let last = match last {
             Some(last) if is_fault_before(&last, start) => Some(Place {
                 end_byte: end,
+                end_sample: last.end_sample.max(sample),
                 ..last
             }),
             last => last,

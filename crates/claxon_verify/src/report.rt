@@ -76,7 +76,8 @@ pub struct Place {
     /// The number of its first sample, in the stream that was encoded, as far as that is known: of the first place, how many
     /// samples of each channel are before it.
     pub start_sample: u64,
-    /// The number, in the stream that was encoded, of the first sample after it, as far as that is known.
+    /// The number, in the stream that was encoded, of the first sample after it, as far as that is known; where the stream ends,
+    /// that of the streaminfo.
     pub end_sample: u64,
     /// What is wrong.
     pub damage: Damage,

@@ -242,11 +242,12 @@ fn hashed<A: Allocator>(md5: Option<Md5>, block: &Block<A>, bit_depth: u32) -> O
     }
 }
 
-/// One fault more, unless memory was refused.
+/// One fault more, unless memory was refused, of a stream which should have so many samples.
 pub(crate) fn with_fault<A: Allocator>(
     walk: Walk<A>,
     fault: FrameError,
     span: ByteRange,
+    samples: u64,
 ) -> Result<Walk<A>>
     ensures fits { span.start < 2 ^ 64 }
     ensures end_fits { span.end < 2 ^ 64 }
@@ -271,16 +272,29 @@ pub(crate) fn with_fault<A: Allocator>(
             start_byte: span.start,
             end_byte: span.end,
             start_sample: sample,
-            end_sample: sample,
+            end_sample: lost_up_to(sample, &fault.error, samples),
             damage: Damage::Fault(fault),
         }),
         ..walk
     })
 }
 
-/// The walk at the end of the stream: these bytes, of which there are fewer than two, are no frame. If there is one, it is
-/// `last`.
-pub(crate) fn at_end<A: Allocator>(walk: Walk<A>, span: ByteRange, last: u8) -> Walk<A>
+// Up to which sample none is decoded: where the stream ends, all that it should have are lost.
+fn lost_up_to(sample: u64, error: &Error, samples: u64) -> u64 {
+    match error {
+        Error::IoError(_) => sample.max(samples),
+        _ => sample,
+    }
+}
+
+/// The walk at the end of the stream, which should have so many samples. The bytes that are left, fewer than two, are no frame. If
+/// there is one, it is `last`.
+pub(crate) fn at_end<A: Allocator>(
+    walk: Walk<A>,
+    span: ByteRange,
+    last: u8,
+    samples: u64,
+) -> Walk<A>
     ensures ends_walk { EndsWalk walk result }
 {
     let Walk {
@@ -292,7 +306,7 @@ pub(crate) fn at_end<A: Allocator>(walk: Walk<A>, span: ByteRange, last: u8) -> 
     let is_left = span.start != span.end;
     let is_after_fault = places.has_fault_before(span.start);
     Walk {
-        places: places.longer(span.start, span.end),
+        places: places.longer(span.start, span.end, samples),
         notes: Notes {
             has_byte_left: is_left && !is_after_fault,
             ..notes

@@ -283,12 +283,12 @@ fn files_that_are_wrong(rt: HostRuntime) -> Result<(), Fail> {
         kind: ErrorKind::UnexpectedEof,
     };
     let text =
-        "standard input: wrong, 0 frames, 0 samples, but the streaminfo says 1, 1 place\nstandard input:   bytes 42 to 52, samples 0 to 0: truncated: the file ends inside a frame\n";
+        "standard input: wrong, 0 frames, 0 samples, but the streaminfo says 1, 1 place\nstandard input:   bytes 42 to 52, samples 0 to 1: truncated: the file ends inside a frame\n";
     assert!(rt; says(&rt, &["-"], cut, text, "")?);
     bytes[52] ^= 1;
     let failure = io::Error::from(kind);
     let text = format!(in rt.alloc();
-        "standard input: wrong, 0 frames, 0 samples, but the streaminfo says 1, 2 places\nstandard input:   bytes 42 to 53, samples 0 to 0: Ill-formed FLAC stream: frame CRC mismatch\nstandard input:   byte 53, samples 0 to 0: {failure}\n"
+        "standard input: wrong, 0 frames, 0 samples, but the streaminfo says 1, 2 places\nstandard input:   bytes 42 to 53, samples 0 to 0: Ill-formed FLAC stream: frame CRC mismatch\nstandard input:   byte 53, samples 0 to 1: {failure}\n"
     )?;
     let damaged = Fails {
         bytes: front(&bytes, 53),

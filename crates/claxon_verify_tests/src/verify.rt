@@ -84,12 +84,12 @@ const ROWS: [(usize, [bool; 2], Said); 12] = [
     (
         44,
         [false, false],
-        ((0, 0, 0), Some((42, 44, 0, 0, CUT)), false),
+        ((0, 0, 0), Some((42, 44, 0, 1, CUT)), false),
     ),
     (
         52,
         [false, false],
-        ((0, 0, 0), Some((42, 52, 0, 0, CUT)), false),
+        ((0, 0, 0), Some((42, 52, 0, 1, CUT)), false),
     ),
     (53, [false, false], ((1, 1, 0), None, true)),
     (54, [false, false], ((1, 1, 0), None, true)),
@@ -117,7 +117,7 @@ const ROWS: [(usize, [bool; 2], Said); 12] = [
     (
         64,
         [true, true],
-        ((0, 0, 0), Some((42, 64, 0, 0, CRC)), false),
+        ((0, 0, 0), Some((42, 64, 0, 1, CRC)), false),
     ),
 ];
 
@@ -415,7 +415,7 @@ const LINES: [(usize, [bool; 2], u8, &str, &str); 8] = [
         [false, false],
         1,
         "wrong, 0 frames, 0 samples, but the streaminfo says 1, 1 place",
-        "bytes 42 to 52, samples 0 to 0: truncated: the file ends inside a frame",
+        "bytes 42 to 52, samples 0 to 1: truncated: the file ends inside a frame",
     ),
     (
         64,
