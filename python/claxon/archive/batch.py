@@ -370,14 +370,14 @@ def _is_kept(value: Any) -> bool:
 
 class _Places:
     """What is kept of the places of a file that aren't right: the first, what is wrong at the last
-    and the sample after it, their number, and in which thousandths of the file they are."""
+    and its first sample, their number, and in which thousandths of the file they are."""
 
     def __init__(self, size: int) -> None:
         self._size = max(size, 1)
         self._ranges: List[List[int]] = []
         self.first: Dict[str, Any] = {}
         self.last = ""
-        self.end_sample: Optional[int] = None
+        self.last_sample: Optional[int] = None
         self.number = 0
 
     def add(self, places: List[Dict[str, Any]]) -> None:
@@ -385,7 +385,7 @@ class _Places:
             return
         self.first = self.first or places[0]
         self.last = str(places[-1]["what"])
-        self.end_sample = places[-1].get("end_sample")
+        self.last_sample = places[-1].get("start_sample")
         self.number += len(places)
         for place in places:
             self._add_range(place["start_byte"], place["end_byte"])
@@ -457,7 +457,7 @@ def _missing(told: Dict[str, Any], places: _Places) -> int:
     samples. It is 0 where that isn't known."""
     there, said = told.get("samples", 0), told.get("streaminfo_samples", 0)
     if places.number > 0:
-        there = places.end_sample or 0
+        there = places.last_sample or 0
         is_known = places.last.startswith(_CUT) and "left_out" not in told
     else:
         is_known = told.get("md5") != "ok"
