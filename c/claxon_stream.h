@@ -906,9 +906,9 @@ CLAXON_STATIC uint32_t claxon_stream_next_block_planar(struct claxon_stream *str
 
 /* Passes over what is held up to the next byte 0xff, with which each frame begins. */
 CLAXON_STATIC void claxon_stream_pass_to_sync(struct claxon_stream *stream) {
-    const uint8_t *bytes = stream->window + stream->start, *found;
-    if (stream->held > 0 && bytes[0] != 0xff) {
-        found = (const uint8_t *)memchr(bytes, 0xff, stream->held);
+    if (stream->held > 0 && stream->window[stream->start] != 0xff) {
+        const uint8_t *bytes = stream->window + stream->start;
+        const uint8_t *found = (const uint8_t *)memchr(bytes, 0xff, stream->held);
         claxon_stream_pass(stream, found ? (size_t)(found - bytes) : stream->held);
     }
 }
