@@ -89,7 +89,7 @@ struct decoder {
     struct claxon_stream finder;   /* which seeks. It has the samples of the block that it found */
     struct claxon_stream *current; /* one of these two, or NULL before the first frame */
     uint8_t head[ENGINE_HEAD];     /* what the engine gets before the frames, */
-    size_t head_length;            /*     or 0 without a streaminfo, */
+    size_t head_length;            /*     or 0 where it has none, */
     size_t head_given;             /*     and how much of it the engine that seeks has */
     size_t longest_frame;          /* in bytes, as the streaminfo says, or of those that were read */
     uint32_t fixed_block_size;     /* as the first block has it, or 0 */
@@ -156,10 +156,17 @@ void free_content(struct block_memory *memory);
 enum raw_header { RAW_NO_SYNC, RAW_DAMAGED, RAW_HEADER };
 enum raw_header raw_header(const uint8_t *bytes, size_t length);
 int raw_has_sample_number(const uint8_t *bytes);
-void raw_frame(FLAC__Frame *frame, const uint8_t *bytes, size_t length);
+void raw_fill_header(FLAC__FrameHeader *header, const uint8_t *bytes);
+void raw_fill_rest(FLAC__Frame *frame, const uint8_t *bytes, size_t length);
+
+/* subframes.c: the kinds of subframes, of bytes from the first one on, where the frame's header is filled; and as their
+ * contents zeros, as many as the block has samples, since a program may read what a pointer leads to. */
+void fill_subframes(FLAC__Frame *frame, const uint8_t *bytes, size_t length);
+void fill_contents(FLAC__Frame *frame, const int32_t *zeros);
 
 /* engine.c: the frames, as claxon_stream.h gives them. */
 int engine_start(struct decoder *self);
+int engine_make_head(struct decoder *self);
 int engine_restart(struct decoder *self);
 void engine_stop(struct decoder *self);
 uint32_t engine_next(struct decoder *self, uint64_t *begin);

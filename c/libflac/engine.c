@@ -18,6 +18,33 @@ static int fit_head(struct decoder *self) {
     return claxon_streaminfo(content, ENGINE_HEAD - 8, &info, self->engine.error, 0) == CLAXON_OK;
 }
 
+/* Writes a number in so many bytes. */
+static uint8_t *put_number(uint8_t *to, uint64_t number, size_t count) {
+    size_t i;
+    for (i = 0; i < count; i++) {
+        to[i] = (uint8_t)(number >> 8 * (count - 1 - i));
+    }
+    return to + count;
+}
+
+/* Makes a head of what the last frame says. Returns whether the engine takes that. */
+int engine_make_head(struct decoder *self) {
+    const FLAC__FrameHeader *frame = &self->last;
+    uint64_t format = (uint64_t)frame->sample_rate << 44 | (uint64_t)(frame->channels - 1) << 41 |
+                      (uint64_t)(frame->bits_per_sample - 1) << 36;
+    uint8_t *to;
+    if (frame->channels == 0 || frame->bits_per_sample == 0) {
+        return false;
+    }
+    memset(self->head, 0, ENGINE_HEAD);
+    memcpy(self->head, "fLaC\x80\0\0\x22", 8);
+    to = put_number(self->head + 8, self->fixed_block_size ? self->fixed_block_size : 16, 2);
+    to = put_number(to, self->fixed_block_size ? self->fixed_block_size : 65535, 2);
+    put_number(to + 6, format, 8);
+    self->head_length = fit_head(self) ? ENGINE_HEAD : 0;
+    return self->head_length > 0;
+}
+
 /* Notes where the first frame begins, for seeks: as the callback tells it, or counted from the first byte that was read. */
 static void locate(struct decoder *self) {
     uint64_t position;

@@ -68,13 +68,15 @@ static int is_too_wide(const struct claxon_block *block, const int32_t *samples,
     return above >> bits_per_sample != 0;
 }
 
-/* The time of a block whose header has the number of a frame. The engine multiplies that by the one block size of the
- * streaminfo, or else by the block's own. Where the streaminfo has two sizes the number is that of a sample, as libFLAC takes
- * it. Without a streaminfo the block size is that of the first block. */
-static uint64_t time_of(struct decoder *self, const struct claxon_block *block, const uint8_t *bytes) {
+/* The time of the engine's block. The engine multiplies the number of a frame in its header by the one block size of the head,
+ * or else by the block's own. Where the streaminfo has two sizes the number is that of a sample, as libFLAC takes it. Without a
+ * streaminfo the block size is that of the first block, which a head that was made has too. */
+static uint64_t time_of(struct decoder *self, const struct claxon_stream *engine, const uint8_t *bytes) {
+    const struct claxon_block *block = &engine->block;
     uint64_t number = block->time / block->duration;
-    if (raw_has_sample_number(bytes) ||
-        (self->has_streaminfo && self->streaminfo.min_blocksize == self->streaminfo.max_blocksize)) {
+    uint32_t least = self->has_streaminfo ? self->streaminfo.min_blocksize : engine->info.min_block_size;
+    uint32_t most = self->has_streaminfo ? self->streaminfo.max_blocksize : engine->info.max_block_size;
+    if (raw_has_sample_number(bytes) || (least == most && (self->has_streaminfo || most > 0))) {
         return block->time;
     }
     if (self->has_streaminfo) {
@@ -156,15 +158,22 @@ static int write_silence(struct decoder *self, uint64_t until) {
     return true;
 }
 
-/* Hands over a block with this header. */
-static int write_block(struct decoder *self, const struct claxon_stream *engine, const FLAC__Frame *frame, size_t skipped) {
-    if (is_after_gap(self, &frame->header) && !write_silence(self, frame->header.number.sample_number)) {
+/* Hands over a block whose frame has this header and these bytes. */
+static int write_block(struct decoder *self, const struct claxon_stream *engine, const FLAC__FrameHeader *header,
+                       const uint8_t *bytes, size_t length, size_t skipped) {
+    if (is_after_gap(self, header) && !write_silence(self, header->number.sample_number)) {
+        return false;
+    }
+    if (!hold_silence(self, header->blocksize)) {
         return false;
     }
     if (self->hashes) {
-        hash(self, &engine->block, engine->samples, frame->header.bits_per_sample);
+        hash(self, &engine->block, engine->samples, header->bits_per_sample);
     }
-    self->frame = *frame;
+    memset(&self->frame, 0, sizeof self->frame);
+    self->frame.header = *header;
+    raw_fill_rest(&self->frame, bytes, length);
+    fill_contents(&self->frame, self->silence);
     return write_frame(self, engine->samples, skipped);
 }
 
@@ -172,23 +181,24 @@ enum handed hand_block(struct decoder *self, const struct claxon_stream *engine,
                        int is_written) {
     const struct claxon_block *block = &engine->block;
     const uint8_t *bytes = source_bytes(self) + (begin - self->source.base);
-    FLAC__Frame frame;
+    size_t length = (size_t)(engine->position - begin);
+    FLAC__FrameHeader header;
     int is_done = 1;
-    memset(&frame, 0, sizeof frame);
-    fill_header(self, &frame.header, block);
-    frame.header.number.sample_number = time_of(self, block, bytes);
-    raw_frame(&frame, bytes, (size_t)(engine->position - begin));
-    if (is_too_wide(block, engine->samples, frame.header.bits_per_sample)) {
+    memset(&header, 0, sizeof header);
+    fill_header(self, &header, block);
+    header.number.sample_number = time_of(self, engine, bytes);
+    raw_fill_header(&header, bytes);
+    if (is_too_wide(block, engine->samples, header.bits_per_sample)) {
         send_error(self, FLAC__STREAM_DECODER_ERROR_STATUS_FRAME_CRC_MISMATCH);
         send_error(self, FLAC__STREAM_DECODER_ERROR_STATUS_LOST_SYNC);
         return HANDED_NOTHING;
     }
     if (is_written) {
-        is_done = write_block(self, engine, &frame, from > block->time ? (size_t)(from - block->time) : 0);
+        is_done = write_block(self, engine, &header, bytes, length, from > block->time ? (size_t)(from - block->time) : 0);
     }
-    self->last = frame.header;
+    self->last = header;
     self->has_last = true;
-    self->next_sample = frame.header.number.sample_number + distance_of(self, block, bytes);
+    self->next_sample = header.number.sample_number + distance_of(self, block, bytes);
     if (!is_done) {
         return HANDED_IN_VAIN;
     }

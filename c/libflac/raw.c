@@ -1,4 +1,4 @@
-/* raw.c: the bytes of a frame that the engine has decoded: what its header and footer have, which the engine doesn't tell. */
+/* raw.c: the bytes of a frame that the engine has decoded: what they say and the engine doesn't tell. */
 #include "decoder.h"
 
 /* The number of bytes of the coded number in a frame header, by its first byte (RFC 9639, section 9.1.5). */
@@ -36,15 +36,6 @@ static size_t crc8_at(const uint8_t *bytes) {
     return at;
 }
 
-/* The kind of the first subframe, by its header (RFC 9639, section 9.2.1). */
-static FLAC__SubframeType subframe_type(uint8_t header) {
-    unsigned code = header >> 1 & 0x3f;
-    if (code == 0) {
-        return FLAC__SUBFRAME_TYPE_CONSTANT;
-    }
-    return code == 1 ? FLAC__SUBFRAME_TYPE_VERBATIM : code < 32 ? FLAC__SUBFRAME_TYPE_FIXED : FLAC__SUBFRAME_TYPE_LPC;
-}
-
 int raw_has_sample_number(const uint8_t *bytes) {
     return bytes[1] & 1;
 }
@@ -58,16 +49,19 @@ enum raw_header raw_header(const uint8_t *bytes, size_t length) {
     return crc8 < length && bytes[crc8] == crc8_of(bytes, crc8) ? RAW_HEADER : RAW_DAMAGED;
 }
 
-void raw_frame(FLAC__Frame *frame, const uint8_t *bytes, size_t length) {
+void raw_fill_header(FLAC__FrameHeader *header, const uint8_t *bytes) {
     static const FLAC__ChannelAssignment assignments[3] = {
         FLAC__CHANNEL_ASSIGNMENT_LEFT_SIDE, FLAC__CHANNEL_ASSIGNMENT_RIGHT_SIDE, FLAC__CHANNEL_ASSIGNMENT_MID_SIDE};
     unsigned channel_code = bytes[3] >> 4;
-    size_t crc8 = crc8_at(bytes);
-    frame->header.channel_assignment =
+    header->channel_assignment =
         channel_code >= 8 && channel_code <= 10 ? assignments[channel_code - 8] : FLAC__CHANNEL_ASSIGNMENT_INDEPENDENT;
-    frame->header.crc = bytes[crc8];
-    if (length > crc8 + 3) {
-        frame->subframes[0].type = subframe_type(bytes[crc8 + 1]);
+    header->crc = bytes[crc8_at(bytes)];
+}
+
+void raw_fill_rest(FLAC__Frame *frame, const uint8_t *bytes, size_t length) {
+    size_t subframes = crc8_at(bytes) + 1;
+    if (length > subframes + 2) {
+        fill_subframes(frame, bytes + subframes, length - subframes - 2);
         frame->footer.crc = (FLAC__uint16)(bytes[length - 2] << 8 | bytes[length - 1]);
     }
 }

@@ -45,19 +45,37 @@ static int64_t seek_source(void *source_of, int64_t offset, int whence) {
     return offset;
 }
 
+/* Goes back to the first frame. */
+static int rewind_source(struct decoder *self) {
+    if (self->callbacks.seek(&self->base, self->first_frame, self->callbacks.client_data) !=
+        FLAC__STREAM_DECODER_SEEK_STATUS_OK) {
+        return false;
+    }
+    engine_stop(self);
+    source_clear(self, self->head_length);
+    self->head_given = 0;
+    return true;
+}
+
+/* Makes a head of what the first frame says, where the stream has none that the engine takes: it seeks in a stream with a head.
+ */
+static int add_head(struct decoder *self) {
+    if (self->head_length > 0) {
+        return true;
+    }
+    return rewind_source(self) && engine_restart(self) && read_frame(self, 0) &&
+           self->state == FLAC__STREAM_DECODER_SEARCH_FOR_FRAME_SYNC && engine_make_head(self);
+}
+
 /* Finds the frame with the sample, and hands its block over from the sample on. */
 static int seek_native(struct decoder *self, uint64_t sample) {
     struct claxon_stream *finder = &self->finder;
     uint64_t begin;
     uint32_t status;
     int is_done = 0;
-    if (self->callbacks.seek(&self->base, self->first_frame, self->callbacks.client_data) !=
-        FLAC__STREAM_DECODER_SEEK_STATUS_OK) {
-        return fail(self, FLAC__STREAM_DECODER_SEEK_ERROR);
+    if (!add_head(self) || !rewind_source(self)) {
+        return self->state != FLAC__STREAM_DECODER_MEMORY_ALLOCATION_ERROR && fail(self, FLAC__STREAM_DECODER_SEEK_ERROR);
     }
-    engine_stop(self);
-    source_clear(self, self->head_length);
-    self->head_given = 0;
     claxon_stream_free(finder);
     claxon_stream_init(finder, read_source, self);
     claxon_stream_set_seek(finder, seek_source);

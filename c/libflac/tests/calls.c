@@ -146,6 +146,19 @@ static void print_position(const FLAC__StreamDecoder *decoder) {
     }
 }
 
+/* The kind of the subframe of each channel, and its wasted bits where there are some. */
+static void print_kinds(const FLAC__Frame *frame) {
+    uint32_t channel;
+    printf(", kind");
+    for (channel = 0; channel < frame->header.channels; channel++) {
+        const FLAC__Subframe *subframe = &frame->subframes[channel];
+        printf(" %d", subframe->type);
+        if (subframe->wasted_bits > 0) {
+            printf("-%u", subframe->wasted_bits);
+        }
+    }
+}
+
 static FLAC__StreamDecoderWriteStatus on_write(const FLAC__StreamDecoder *decoder, const FLAC__Frame *frame,
                                                const FLAC__int32 *const buffer[], void *client_data) {
     struct session *session = (struct session *)client_data;
@@ -160,9 +173,11 @@ static FLAC__StreamDecoderWriteStatus on_write(const FLAC__StreamDecoder *decode
         session->has_wrong_crc = 1;
     }
     note_position(session, decoder);
-    printf("    write %" PRIu64 "+%u, %u Hz, %u channels (%d), %u bits, number type %d, kind %d, samples %08x",
-           header->number.sample_number, header->blocksize, header->sample_rate, header->channels, header->channel_assignment,
-           header->bits_per_sample, header->number_type, frame->subframes[0].type, sum);
+    printf("    write %" PRIu64 "+%u, %u Hz, %u channels (%d), %u bits, number type %d", header->number.sample_number,
+           header->blocksize, header->sample_rate, header->channels, header->channel_assignment, header->bits_per_sample,
+           header->number_type);
+    print_kinds(frame);
+    printf(", samples %08x", sum);
     print_position(decoder);
     printf(", %s\n", state_of(decoder));
     return session->writes == session->abort_write ? FLAC__STREAM_DECODER_WRITE_STATUS_ABORT
