@@ -42,14 +42,28 @@ static void interleave(int32_t *to, const int32_t *samples, size_t count, size_t
     }
 }
 
+/* Puts two samples of 16 bits as one of 32, which has the same bytes: there are half as many to hash. */
+static void join(int32_t *to, const int32_t *first, const int32_t *second, size_t count) {
+    size_t i;
+    for (i = 0; i < count; i++) {
+        to[i] = (int32_t)(((uint32_t)first[i] & 0xffff) | (uint32_t)second[i] << 16);
+    }
+}
+
 /* Hashes a block, a piece at a time. */
 static void hash(struct decoder *self, const struct claxon_block *block, const int32_t *samples, uint32_t bits_per_sample) {
     int32_t interleaved[HASHED_AT_ONCE];
+    int is_joined = block->channels == 2 && bits_per_sample > 8 && bits_per_sample <= 16;
     size_t most = HASHED_AT_ONCE / block->channels, from = 0;
     while (from < block->duration) {
         size_t count = block->duration - from < most ? block->duration - from : most;
-        interleave(interleaved, samples + from, count, block->duration, block->channels);
-        claxon_md5_samples(&self->md5, interleaved, count * block->channels, bits_per_sample);
+        if (is_joined) {
+            join(interleaved, samples + from, samples + block->duration + from, count);
+            claxon_md5_samples(&self->md5, interleaved, count, 32);
+        } else {
+            interleave(interleaved, samples + from, count, block->duration, block->channels);
+            claxon_md5_samples(&self->md5, interleaved, count * block->channels, bits_per_sample);
+        }
         from += count;
     }
 }
