@@ -1,10 +1,13 @@
 /* hostile ROUNDS FILE: makes calls in many orders on damaged copies of a file, with callbacks that fail by chance, and with
- * each request for memory refused in turn. Nothing may be lost, and each call has to return; sanitizers see the rest. The same
- * numbers are drawn each time. With -DFUZZED it is a target of libFuzzer, whose bytes are the numbers and the stream. */
+ * each request for memory refused in turn. Nothing may be lost, and each call has to return; sanitizers see the rest. In every
+ * other copy the CRCs of damaged frames are right. The same numbers are drawn each time. With -DFUZZED it is a target of
+ * libFuzzer, whose bytes are the numbers and the stream. */
 #include <FLAC/stream_decoder.h>
 #include <stdio.h>
 #include <stdlib.h>
 #include <string.h>
+
+#include "claxon.h"
 
 #define CALLS 40
 #define MAX_STEPS 200000
@@ -186,13 +189,67 @@ static void run(const uint8_t *bytes, size_t length, uint32_t seed, unsigned fai
     FLAC__stream_decoder_delete(decoder);
 }
 
+/* Where the next sync code is from a position on, or the length. */
+static size_t find_sync(const uint8_t *bytes, size_t length, size_t at) {
+    while (at + 1 < length && (bytes[at] != 0xff || bytes[at + 1] >> 1 != 0x7c)) {
+        at++;
+    }
+    return at + 1 < length ? at : length;
+}
+
+/* The length of a frame header without its CRC (RFC 9639, section 9.1). */
+static size_t header_length(const uint8_t *bytes) {
+    unsigned size_code = bytes[2] >> 4, rate_code = bytes[2] & 15, first = bytes[4];
+    size_t length = 5;
+    while ((first & 0xc0) == 0xc0) {
+        first <<= 1;
+        length++;
+    }
+    length += size_code == 6 ? 1 : size_code == 7 ? 2 : 0;
+    return length + (rate_code == 12 ? 1 : rate_code == 13 || rate_code == 14 ? 2 : 0);
+}
+
+static uint8_t crc8_of(const uint8_t *bytes, size_t length) {
+    unsigned crc = 0, bit;
+    size_t i;
+    for (i = 0; i < length; i++) {
+        crc ^= bytes[i];
+        for (bit = 0; bit < 8; bit++) {
+            crc = crc & 0x80 ? (crc << 1 ^ 0x07) & 0xff : crc << 1;
+        }
+    }
+    return (uint8_t)crc;
+}
+
+/* Mends the CRCs of frames, from each sync code to the next one. So more is read of what is damaged in them. */
+static void mend(uint8_t *bytes, size_t length) {
+    size_t begin = find_sync(bytes, length, 0), end;
+    for (; begin < length; begin = end) {
+        end = find_sync(bytes, length, begin + 2);
+        if (end - begin > 20) {
+            size_t header = header_length(bytes + begin);
+            uint16_t crc;
+            bytes[begin + header] = crc8_of(bytes + begin, header);
+            crc = claxon_crc16(0, bytes + begin, end - begin - 2);
+            bytes[end - 2] = (uint8_t)(crc >> 8);
+            bytes[end - 1] = (uint8_t)crc;
+        }
+    }
+}
+
 #ifdef FUZZED
 
 int LLVMFuzzerTestOneInput(const uint8_t *bytes, size_t length) {
-    if (length > 5) {
+    uint8_t *copy = length > 5 ? (uint8_t *)malloc(length - 5) : NULL;
+    if (copy) {
         uint32_t seed = bytes[0] | (uint32_t)bytes[1] << 8 | (uint32_t)bytes[2] << 16 | (uint32_t)bytes[3] << 24;
-        run(bytes + 5, length - 5, seed, bytes[4]);
+        memcpy(copy, bytes + 5, length - 5);
+        if (bytes[4] & 1) {
+            mend(copy, length - 5);
+        }
+        run(copy, length - 5, seed, bytes[4] >> 1);
     }
+    free(copy);
     return 0;
 }
 
@@ -257,6 +314,9 @@ int main(int count, char **words) {
     fclose(file);
     for (round = 0; round < 20 * rounds; round++) {
         damage(copy, bytes, length, &source);
+        if (round % 2 > 0) {
+            mend(copy, length);
+        }
         run(copy, length - draw(&source) % 100, (uint32_t)round, (unsigned)(draw(&source) % 3 == 0 ? 0 : draw(&source) % 60));
     }
     for (round = 0; round < rounds; round++) {
