@@ -83,7 +83,8 @@ struct decoder {
 
     FLAC__bool has_streaminfo;
     FLAC__StreamMetadata_StreamInfo streaminfo;
-    uint64_t first_frame; /* its position for the callbacks */
+    uint64_t first_frame;   /* its position for the callbacks */
+    FLAC__bool reads_ahead; /* whether more may be read at once than is needed */
 
     struct claxon_stream engine;
     struct claxon_stream finder;   /* which seeks. It has the samples of the block that it found */

@@ -4,6 +4,9 @@
 /* The greatest length of a frame for whose bytes is waited before it is decoded. */
 #define ENGINE_MAX_AHEAD (1024 * 1024)
 
+/* How many bytes are awaited at most where nothing shows that the frame is whole. */
+#define ENGINE_MAX_WAIT 65536
+
 /* Makes the streaminfo block one that the engine takes: it is told of channels, bit depth and number of samples, and of sizes
  * and a sample rate where it knows such. Returns whether it takes that. */
 static int fit_head(struct decoder *self) {
@@ -45,11 +48,13 @@ int engine_make_head(struct decoder *self) {
     return self->head_length > 0;
 }
 
-/* Notes where the first frame begins, for seeks: as the callback tells it, or counted from the first byte that was read. */
+/* Notes where the first frame begins, for seeks: as the callback tells it, or counted from the first byte that was read. A
+ * source that tells it and seeks is taken for a file. */
 static void locate(struct decoder *self) {
     uint64_t position;
-    int is_told = FLAC__stream_decoder_get_decode_position(&self->base, &position);
+    FLAC__bool is_told = FLAC__stream_decoder_get_decode_position(&self->base, &position);
     self->first_frame = is_told ? position : self->source.base;
+    self->reads_ahead = is_told && self->callbacks.seek;
 }
 
 void engine_stop(struct decoder *self) {
@@ -117,10 +122,45 @@ static int feed_more(struct decoder *self) {
 /* Reads ahead where the source is a file: so that a frame is there as a whole when it is decoded, and isn't tried in vain. */
 static int read_ahead(struct decoder *self) {
     size_t ahead = self->longest_frame < ENGINE_MAX_AHEAD ? self->longest_frame : ENGINE_MAX_AHEAD;
-    if (!self->callbacks.seek || self->is_ogg) {
-        return true;
-    }
     while (source_unread(self) < ahead && !self->source.is_short) {
+        if (!source_read(self)) {
+            return self->state != FLAC__STREAM_DECODER_MEMORY_ALLOCATION_ERROR;
+        }
+    }
+    return self->source.given == self->source.held || feed(self);
+}
+
+/* What is known of the bytes of a frame that were awaited: how many were looked at, and their CRC. */
+struct awaited {
+    size_t seen;
+    uint16_t crc;
+};
+
+/* Whether a frame may be there as a whole: another one seems to begin after it, or the CRC of all bytes is right. */
+static int may_have_frame(const struct decoder *self, struct awaited *awaited) {
+    size_t length = source_unread(self), seen = awaited->seen;
+    const uint8_t *bytes, *at, *end;
+    if (length < 2 || length >= ENGINE_MAX_WAIT) {
+        return length >= ENGINE_MAX_WAIT;
+    }
+    bytes = source_bytes(self) + (self->source.held - length);
+    end = bytes + length;
+    at = bytes + (seen > 0 ? seen : 1);
+    awaited->seen = length;
+    awaited->crc = claxon_crc16(awaited->crc, bytes + seen, length - seen);
+    while (at < end && (at = (const uint8_t *)memchr(at, 0xff, (size_t)(end - at))) != NULL) {
+        if (at + 1 == end || at[1] >> 1 == 0x7c) {
+            return 1;
+        }
+        at++;
+    }
+    return awaited->crc == 0;
+}
+
+/* Reads of a source that may be a pipe until a frame may be there, and no more, for which the callback might wait. */
+static int read_frame_bytes(struct decoder *self) {
+    struct awaited awaited = {0, 0};
+    while (!may_have_frame(self, &awaited)) {
         if (!source_read(self)) {
             return self->state != FLAC__STREAM_DECODER_MEMORY_ALLOCATION_ERROR;
         }
@@ -131,7 +171,7 @@ static int read_ahead(struct decoder *self) {
 /* Decodes the next frame. NEED_MORE: no more can be read, and the state says why. */
 uint32_t engine_next(struct decoder *self, uint64_t *begin) {
     uint32_t status;
-    if (!read_ahead(self)) {
+    if (!(self->reads_ahead ? read_ahead(self) : read_frame_bytes(self))) {
         return CLAXON_NEED_MORE;
     }
     do {

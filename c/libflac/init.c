@@ -23,6 +23,7 @@ static void forget_stream(struct decoder *self) {
     self->has_streaminfo = false;
     self->fixed_block_size = 0;
     self->first_frame = 0;
+    self->reads_ahead = false;
     self->head_length = 0;
     self->hashes = self->settings.checks_md5;
     claxon_md5_start(&self->md5);

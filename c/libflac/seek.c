@@ -57,8 +57,7 @@ static int rewind_source(struct decoder *self) {
     return true;
 }
 
-/* Makes a head of what the first frame says, where the stream has none that the engine takes: it seeks in a stream with a head.
- */
+/* Makes a head of what the first frame says, where the stream has none: the engine seeks in a stream with a head alone. */
 static int add_head(struct decoder *self) {
     if (self->head_length > 0) {
         return true;

@@ -1,8 +1,9 @@
 /* source.c: the bytes of the stream, as they are read and as far as they are still needed. */
 #include "decoder.h"
 
-/* How many bytes are read at once. */
+/* How many bytes are read at once: of a file, and of what may be a pipe, where the callback may wait for all of them. */
 #define SOURCE_STEP 65536
+#define SOURCE_LIVE_STEP 8192
 
 const uint8_t *source_bytes(const struct decoder *self) {
     return self->source.window + self->source.start;
@@ -42,10 +43,13 @@ void source_pass(struct decoder *self, size_t count) {
     source->base += count;
 }
 
-/* Makes room for more bytes: moves what is held to the front, or doubles the window. */
+/* Makes room for more bytes after those that are held: moves these to the front, or doubles the window. */
 static int make_room(struct decoder *self) {
     struct source *source = &self->source;
     source_pass(self, source_used(self));
+    if (source->start + source->held + SOURCE_STEP <= source->size) {
+        return true;
+    }
     if (source->size == 0 || source->held > source->size / 2) {
         size_t size = source->size == 0 ? 2 * SOURCE_STEP : 2 * source->size;
         uint8_t *window = (uint8_t *)malloc(size);
@@ -90,7 +94,7 @@ static int move(struct decoder *self) {
 
 int source_read(struct decoder *self) {
     struct source *source = &self->source;
-    size_t length, most;
+    size_t length, most = self->reads_ahead ? SOURCE_STEP : SOURCE_LIVE_STEP;
     if (source->status != FLAC__STREAM_DECODER_READ_STATUS_CONTINUE || !make_room(self)) {
         return false;
     }
@@ -98,9 +102,8 @@ int source_read(struct decoder *self) {
         source->status = FLAC__STREAM_DECODER_READ_STATUS_ABORT;
         return false;
     }
-    most = source->size - source->held < SOURCE_STEP ? source->size - source->held : SOURCE_STEP;
     length = most;
-    source->status = self->read(self, source->window + source->held, &length);
+    source->status = self->read(self, source->window + source->start + source->held, &length);
     source->is_short = length < most;
     if (source->status != FLAC__STREAM_DECODER_READ_STATUS_CONTINUE) {
         return false;

@@ -8,7 +8,7 @@ struct bits {
     uint64_t at, end; /* counted in bits */
 };
 
-/* How many bits of a word are always known: those of eight bytes, less up to seven of the first one, and whole bytes. */
+/* How many bits of eight bytes are there, from any bit of the first one on. It is a number of whole bytes. */
 #define KNOWN 56
 
 /* Eight bytes as a number. The compiler makes one load of it. */

@@ -19,6 +19,7 @@ struct session {
     long reads, writes;                     /* how many there were */
     long abort_read, end_read, abort_write; /* which of them aborts or ends, or 0 */
     int no_seek, no_tell, seek_fails, length_fails, tell_fails, seek_unsupported, no_metadata;
+    int shows_read; /* whether it prints how many bytes were read before a frame was handed over */
     int checks_crc;
     int has_wrong_crc;
     size_t frame_at; /* where the next frame begins */
@@ -39,6 +40,9 @@ static FLAC__StreamDecoderReadStatus on_read(const FLAC__StreamDecoder *decoder,
     struct session *session = (struct session *)client_data;
     size_t count = *length, left = session->length - session->at;
     (void)decoder;
+    if (session->no_seek && count > 8192) {
+        printf("    asked for more than libFLAC asks for\n"); /* which a pipe would wait for */
+    }
     session->reads++;
     *length = 0;
     if (session->reads == session->abort_read) {
@@ -178,6 +182,9 @@ static FLAC__StreamDecoderWriteStatus on_write(const FLAC__StreamDecoder *decode
            header->number_type);
     print_kinds(frame);
     printf(", samples %08x", sum);
+    if (session->shows_read) {
+        printf(" of %zu bytes", session->at);
+    }
     print_position(decoder);
     printf(", %s\n", state_of(decoder));
     return session->writes == session->abort_write ? FLAC__STREAM_DECODER_WRITE_STATUS_ABORT
@@ -334,10 +341,10 @@ static int change_bytes(struct session *session, const char *word) {
 
 /* Changes how the stream is read. */
 static int change_reads(struct session *session, const char *word) {
-    static const char *const names[] = {"noseek",    "notell",          "seekfails", "lengthfails",
-                                        "tellfails", "seekunsupported", "nometadata"};
-    int *flags[] = {&session->no_seek,    &session->no_tell,          &session->seek_fails, &session->length_fails,
-                    &session->tell_fails, &session->seek_unsupported, &session->no_metadata};
+    static const char *const names[] = {"noseek",    "notell",          "seekfails",  "lengthfails",
+                                        "tellfails", "seekunsupported", "nometadata", "showread"};
+    int *flags[] = {&session->no_seek,    &session->no_tell,          &session->seek_fails,  &session->length_fails,
+                    &session->tell_fails, &session->seek_unsupported, &session->no_metadata, &session->shows_read};
     long number;
     size_t i;
     for (i = 0; i < sizeof names / sizeof names[0]; i++) {
