@@ -10,3 +10,15 @@ pub mod OneAnswers
 pub mod FrameEnds
 -- What a decoder noted of a stream.
 pub mod Notes
+-- A search for a frame, position by position.
+pub mod Searching
+-- A search for a frame, where a frame is tried.
+pub mod TriedFrames
+-- A search for a frame, where it stops at a position without a try.
+pub mod SearchAnswers
+-- From a position of a stream on a search has one answer.
+pub mod OneFinds
+-- Calls of a search, one after another.
+pub mod FindChains
+-- An answer of a search, beside that of `find_frame` over all bytes.
+pub mod FindFrames

@@ -56,6 +56,10 @@ use Rattle.claxon_stream.specs.declared.frames.FrameDecoder.{FrameDecoder}
 abbrev pub decoder_position : FrameDecoder → ℕ
 decoder_position s = s.position
 
+-- how much work of tries in vain wasn't made good
+abbrev pub tries_wasted : FrameDecoder → ℕ
+tries_wasted s = wasted_work s.budget
+
 -- `frames.is_over_budget()`
 abbrev pub IsOverBudget : FrameDecoder → Type 0
 IsOverBudget s = IsSpent s.budget
@@ -63,6 +67,14 @@ IsOverBudget s = IsSpent s.budget
 -- What a new decoder notes is so of every stream.
 abbrev pub StartsRight : FrameDecoder → Type 0
 StartsRight s = StartKnows s.end
+
+-- It begins at the position, and nothing is noted that isn't so of every stream. The budget is that
+-- of another one.
+pub record IsFromPosition (old : FrameDecoder) (at : ℕ) (new : FrameDecoder) : Type 0 where
+  pub position : decoder_position new ≡ at
+  pub budget : new.budget ≡ old.budget
+  pub starts : StartsRight new
+  pub summed : summed_bytes new.end ≡ 0
 
 -- What the decoder noted is so of the stream of these bytes.
 abbrev pub IsRightOf : Option StreamInfo → List ℕ → FrameDecoder → Type 0
@@ -158,12 +170,12 @@ module _ (known : Option StreamInfo) (at : ℕ) (bytes : List ℕ) (is_end : Boo
   -- and the samples of a block.
   abbrev pub WasteIsInVain : Result Event Error → FrameDecoder → Type 0
   WasteIsInVain result new = (stream : List ℕ) → StandsIn stream at bytes is_end
-      → IsRightOf known stream old → (wasted_work new.budget ≤ wasted_work old.budget)
+      → IsRightOf known stream old → (tries_wasted new ≤ tries_wasted old)
       ⊎ (IsReadOn result
       × IsOpen (option_map stream_with known) (held_from at (decoder_position old) bytes)
       × IsZeroWithin (drop (decoder_position old) stream)
       (max (length (held_from at (decoder_position old) bytes)) (summed_bytes old.end))
-      × (wasted_work new.budget ≤ wasted_work old.budget
+      × (tries_wasted new ≤ tries_wasted old
       + (length (held_from at (decoder_position old) bytes) + max_block_samples)))
 
 -- ---- parts of the code

@@ -1,9 +1,13 @@
 pub mod Budget
 pub mod DecodedAtStart
 pub mod Event
+pub mod FindLaws
 pub mod FrameDecoder
 pub mod FrameEnd
+pub mod FrameFinder
+pub mod HeaderThere
 pub mod Held
 pub mod Laws
 pub mod Noted
+pub mod Search
 pub mod SumThrough

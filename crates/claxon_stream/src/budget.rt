@@ -1,28 +1,38 @@
 //! How much work may lead to no frame.
-ghost use Rattle.std.specs.Prelude.{◌≡◌, ◌↔◌, ◌+◌, ◌≤◌, IsTrue};
+ghost use Rattle.std.specs.Prelude.{◌≡◌, ◌↔◌, ◌+◌, ◌-◌, ◌≤◌, IsTrue, max};
 
-// How much work of tries in vain, in bytes and samples, is allowed before none are made where the CRC-16 is 0.
+// How much work that led to no frame, in bytes and samples, is allowed: of a decoder before it makes no tries where the CRC-16 is 0, of
+// a search before it passes headers over.
 const MAX_WASTED: u64 = 1 << 26;
 
-// How much of it each byte that is handed in makes good, so that the time is linear. By chance the CRC-16 is 0 at one place of 65,536:
-// a frame of L bytes and S samples takes some (L / 2 + S) / 65,536 for each byte, which is 24 for the largest, of eight channels of
-// 65,535 samples of 32 bits. So what passes the budget was made to cost time.
+// How much of it each byte that is handed in, or that a search passes, makes good, so that the time is linear. By chance the CRC-16 is 0
+// at one place of 65,536: a frame of L bytes and S samples takes some (L / 2 + S) / 65,536 for each byte, which is 24 for the largest, of
+// eight channels of 65,535 samples of 32 bits. A header with its CRC-8 stands at one place of 2^24, which takes less than 1. So what
+// passes the budget was made to cost time, or is very much silence, with damage in each of its frames.
 const MADE_GOOD_BY_A_BYTE: u64 = 32;
 
-// The work of tries in vain.
+// The work that led to no frame.
 #[derive(Clone, Copy, Debug)]
 pub(crate) struct Budget {
     // What wasn't made good yet.
     wasted: u64,
-    // The position in the stream after the last byte that was handed in.
+    // The position in the stream after the last byte that was counted.
     seen: u64,
 }
 
 impl Budget {
-    ghost use Rattle.claxon_stream.specs.Budget.{IsSpent, wasted_work};
+    ghost use Rattle.claxon_stream.specs.Budget.{
+      IsSpent,
+      charged,
+      counted_position,
+      made_good,
+      wasted_work,
+      work_left,
+    };
 
     pub(crate) fn new(position: u64) -> Budget
-        ensures { wasted_work result ≡ 0 }
+        ensures wasted { wasted_work result ≡ 0 }
+        ensures counted { counted_position result ≡ position }
     {
         Budget {
             wasted: 0,
@@ -37,9 +47,29 @@ impl Budget {
         self.wasted > MAX_WASTED
     }
 
-    // Bytes up to this position were handed in.
+    // Whether it suffices for so much more work.
+    pub(crate) fn suffices_for(&self, work: u64) -> bool
+        ensures { IsTrue result ↔ (work ≤ work_left (wasted_work self.now)) }
+    {
+        work <= MAX_WASTED.saturating_sub(self.wasted)
+    }
+
+    // The same, where the bytes from this position on weren't counted yet.
+    pub(crate) fn counted_from(self, position: u64) -> Budget
+        ensures wasted { wasted_work result ≡ wasted_work self }
+        ensures counted { counted_position result ≡ position }
+    {
+        Budget {
+            wasted: self.wasted,
+            seen: position,
+        }
+    }
+
+    // Bytes up to this position were handed in, or passed.
     pub(crate) fn make_good(&mut self, end: u64)
-        ensures { wasted_work self.new ≤ wasted_work self.old }
+        ensures wasted { wasted_work self.new
+            ≡ made_good (wasted_work self.old) (end - counted_position self.old) }
+        ensures counted { counted_position self.new ≡ max (counted_position self.old) end }
     {
         let bytes = end.saturating_sub(self.seen);
         let good = bytes.saturating_mul(MADE_GOOD_BY_A_BYTE);
@@ -49,7 +79,8 @@ impl Budget {
 
     // So many bytes and samples were tried in vain.
     pub(crate) fn charge(&mut self, work: u64)
-        ensures { wasted_work self.new ≤ wasted_work self.old + work }
+        ensures wasted { wasted_work self.new ≡ charged (wasted_work self.old) work }
+        ensures counted { counted_position self.new ≡ counted_position self.old }
     {
         self.wasted = self.wasted.saturating_add(work);
     }

@@ -22,7 +22,8 @@ impl FrameEnd {
 
     // Nothing is known.
     pub(crate) fn new() -> FrameEnd
-        ensures { StartKnows result }
+        ensures knows { StartKnows result }
+        ensures summed { summed_bytes result ≡ 0 }
     {
         FrameEnd {
             tried: 0,

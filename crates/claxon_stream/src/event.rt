@@ -18,6 +18,17 @@ pub enum Event {
     ReadOn(NeededBytes),
 }
 
+/// What a search for a frame finds.
+#[derive(Drop)]
+pub enum FindEvent {
+    /// The position of a frame of the stream, and the frame.
+    Found(u64, DecodedFrame),
+    /// The stream ends, and there is none up to its end.
+    NotFound,
+    /// Nothing can be said before more bytes are handed in.
+    ReadOn(NeededBytes),
+}
+
 /// Why there is no frame.
 #[derive(Debug, Drop)]
 pub struct StreamFault {

@@ -55,6 +55,7 @@ impl FrameDecoder {
       FrameIsComplete,
       FrameIsTimely,
       IsDue,
+      IsFromPosition,
       IsOverBudget,
       IsWorthATry,
       KeepsNotes,
@@ -62,17 +63,30 @@ impl FrameDecoder {
       StartsRight,
       WasteIsInVain,
       decoder_position,
+      tries_wasted,
     };
 
     /// A decoder of the frames from this position of the stream on.
     pub fn new(position: u64) -> FrameDecoder
         ensures position { decoder_position result ≡ position }
         ensures starts_right { StartsRight result }
+        ensures wastes_nothing { tries_wasted result ≡ 0 }
     {
         FrameDecoder {
             position,
             end: FrameEnd::new(),
             budget: Budget::new(position),
+        }
+    }
+
+    // A decoder of the frames from another position on, with the same budget.
+    pub(crate) fn from_position(&self, at: u64) -> FrameDecoder
+        ensures { IsFromPosition self.now at result }
+    {
+        FrameDecoder {
+            position: at,
+            end: FrameEnd::new(),
+            budget: self.budget,
         }
     }
 
@@ -166,7 +180,7 @@ impl FrameDecoder {
 }
 
 // The bytes that are held from a position on: none where they begin after it.
-fn held_from(bytes: &[u8], at: u64, position: u64) -> &[u8]
+pub(crate) fn held_from(bytes: &[u8], at: u64, position: u64) -> &[u8]
     ensures { result.now ≡ held_from at position bytes.now }
 {
     if position < at {
@@ -177,7 +191,7 @@ fn held_from(bytes: &[u8], at: u64, position: u64) -> &[u8]
 }
 
 // Whether the stream is known to end with them.
-fn ends_there(is_end: bool, at: u64, position: u64) -> bool
+pub(crate) fn ends_there(is_end: bool, at: u64, position: u64) -> bool
     ensures { result ≡ ends_there at position is_end }
 {
     at <= position && is_end
@@ -207,7 +221,7 @@ fn faulty(position: u64, error: Error) -> Event
 }
 
 // At least one byte more than are held, and two.
-fn needed_after(position: u64, held: usize) -> NeededBytes
+pub(crate) fn needed_after(position: u64, held: usize) -> NeededBytes
     requires { held < usize.MAX }
     ensures { result ≡ needed_after position held }
 {

@@ -5,9 +5,14 @@ mod at_start;
 mod budget;
 mod ending;
 mod event;
+mod find_laws;
+mod finder;
 mod frames;
+mod header;
 mod laws;
 
-pub use event::{Event, NeededBytes, StreamFault};
+pub use event::{Event, FindEvent, NeededBytes, StreamFault};
+pub use find_laws::{find_cuts_dont_matter, find_is_first, finds_are_find_frames, one_find};
+pub use finder::FrameFinder;
 pub use frames::FrameDecoder;
 pub use laws::{answers_are_decoders, cuts_dont_matter, frames_end_at_zero, one_answer};

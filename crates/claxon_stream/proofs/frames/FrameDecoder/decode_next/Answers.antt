@@ -61,7 +61,7 @@ returns c =
     let w = rw c.held_from-rest.ensures at c.is_worth_a_try.ensures in
     let after : EndIsAfter event tried.end rest c.end_after-self.result = rw (c.event_of-event.ensures, c.held_from-rest.ensures, c.ends_there-ends.ensures, c.is_worth_a_try.ensures.position) at c.end_after-self.ensures in
     let work : IsWorkOf event c.is_due-is_due.result rest c.work_in_vain.result = rw (c.event_of-event.ensures, c.held_from-rest.ensures, c.ends_there-ends.ensures, c.is_worth_a_try.ensures.position) at c.work_in_vain.ensures in
-    let before : wasted_work tried.budget ≤ wasted_work old.budget = rw c.is_worth_a_try.ensures.budget c.make_good.ensures in
+    let before : wasted_work tried.budget ≤ wasted_work old.budget = rw c.is_worth_a_try.ensures.budget (omega (arith, c.make_good.ensures.wasted)) in
     rw (c.moved_by.ensures, c.event_of-event.ensures, c.held_from-rest.ensures, c.ends_there-ends.ensures, c.is_worth_a_try.ensures.position) (record {
       is_sound = sound;
       is_of_stream = λ s stands answer. let k = held_stands s at position bytes c.args.is_end stands in
@@ -77,12 +77,12 @@ returns c =
       fault_is_timely = λ all stands known is f t u bad there. absurd ((none is).no_fault f t u bad there);
       waste_is_in_vain = λ all stands known. let start = starts_with_held all at position bytes c.args.is_end stands in
           elim (wasted_by event c.is_due-is_due.result rest c.work_in_vain.result work) [
-            | inl nothing ↦ inl (omega (arith, nothing, before, c.charge.ensures))
+            | inl nothing ↦ inl (omega (arith, nothing, before, c.charge.ensures.wasted))
             | inr k ↦ inr (
               k.0,
               none k.0,
               zero_before (drop position all) (summed_bytes tried.end) (max held (summed_bytes old.end)) w.summed ((w.knows stream (drop position all) start known).2 k.1 c.if-not-is_worth_a_try.false),
-              omega (arith, k.2, before, c.charge.ensures),
+              omega (arith, k.2, before, c.charge.ensures.wasted),
             )
           ];
     })
