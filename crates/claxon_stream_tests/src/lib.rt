@@ -2,4 +2,6 @@
 #![tactic(auto)]
 
 #[cfg(test)]
+mod finder;
+#[cfg(test)]
 mod frames;
