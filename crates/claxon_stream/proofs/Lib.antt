@@ -22,3 +22,21 @@ pub mod OneFinds
 pub mod FindChains
 -- An answer of a search, beside that of `find_frame` over all bytes.
 pub mod FindFrames
+-- What is read of bytes in memory.
+pub mod HeadReading
+-- What is read of the content of a metadata block.
+pub mod HeadContents
+-- What is read of a part of a head.
+pub mod HeadParts
+-- How many bytes the parts of a head have.
+pub mod HeadSizes
+-- What is read of bytes is read of more bytes too.
+pub mod HeadMoreBytes
+-- What a decoder of heads answers, by the part that was read.
+pub mod HeadEvents
+-- At a position of a stream there is one answer in a head.
+pub mod HeadOneAnswer
+-- The rest of a head in each state of a decoder.
+pub mod HeadRest
+-- The answers of a decoder of heads, and what `read_head` returns.
+pub mod HeadAnswers

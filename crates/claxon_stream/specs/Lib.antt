@@ -6,6 +6,11 @@ pub mod FrameDecoder
 pub mod FrameEnd
 pub mod FrameFinder
 pub mod HeaderThere
+pub mod HeadDecoder
+pub mod HeadLaws
+pub mod HeadPart
+pub mod HeadRules
+pub mod HeadState
 pub mod Held
 pub mod Laws
 pub mod Noted

@@ -29,10 +29,10 @@ pub enum FindEvent {
     ReadOn(NeededBytes),
 }
 
-/// Why there is no frame.
+/// Why there is no frame, or no head.
 #[derive(Debug, Drop)]
 pub struct StreamFault {
-    /// The position at which the frame should begin.
+    /// The position at which the frame, or the marker or the metadata block of the head, should begin.
     pub position: u64,
     /// A `FormatError` or `Unsupported`.
     pub error: Error,
