@@ -5,3 +5,5 @@
 mod finder;
 #[cfg(test)]
 mod frames;
+#[cfg(test)]
+mod heads;
