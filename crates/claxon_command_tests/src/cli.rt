@@ -1,8 +1,8 @@
 //! Command lines of `claxon`: its commands, its help, and what asks for none.
 use claxon_commands::program::VERSION;
 use claxon_commands::{PROGRAM, command};
-use claxon_tests::answers::{FRAME, head, joined};
-use claxon_tests::command_lines::{Outcome, is_outcome, owned};
+use claxon_testing::answers::{FRAME, head, joined};
+use claxon_testing::command_lines::{Outcome, is_outcome, owned};
 use std::test::Fail;
 
 // What a command line came to, with these bytes in standard input.

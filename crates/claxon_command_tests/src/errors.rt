@@ -1,6 +1,6 @@
 //! Errors and values as `Display` and `Debug` print them.
 use claxon::{Error, FlacReader, FlacReaderOptions};
-use claxon_tests::answers::two_frames;
+use claxon_testing::answers::two_frames;
 use claxon_wav as wav;
 use std::alloc::{AllocError, Global};
 use std::fmt::{Debug, Display};

@@ -1,10 +1,10 @@
 //! Command lines of `claxon info`.
 use claxon_commands::info::command;
 use claxon_commands::program::VERSION;
-use claxon_tests::answers::{FRAME, head, joined};
-use claxon_tests::command_lines::{Outcome, is_outcome, owned};
-use claxon_tests::doubles::sinks::Sink;
-use claxon_tests::temporary_files::file_of;
+use claxon_testing::answers::{FRAME, head, joined};
+use claxon_testing::command_lines::{Outcome, is_outcome, owned};
+use claxon_testing::doubles::sinks::Sink;
+use claxon_testing::temporary_files::file_of;
 use std::io::ErrorKind;
 use std::test::Fail;
 use std::{env, fs};

@@ -1,8 +1,8 @@
 //! Command lines of `claxon trace`.
 use claxon_commands::trace::command;
-use claxon_tests::answers::{FRAME, head, joined};
-use claxon_tests::command_lines::owned;
-use claxon_tests::doubles::sinks::Sink;
+use claxon_testing::answers::{FRAME, head, joined};
+use claxon_testing::command_lines::owned;
+use claxon_testing::doubles::sinks::Sink;
 use std::alloc::Global;
 use std::io::ErrorKind;
 use std::test::Fail;

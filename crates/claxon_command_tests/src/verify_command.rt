@@ -1,7 +1,7 @@
 //! Command lines of `claxon verify` with an input in memory: what is printed, and the status.
 use claxon_commands::verify::command;
-use claxon_tests::answers::{FRAME, head, joined};
-use claxon_tests::doubles::sinks::Sink;
+use claxon_testing::answers::{FRAME, head, joined};
+use claxon_testing::doubles::sinks::Sink;
 use std::alloc::{AllocError, Global};
 use std::io::ErrorKind;
 use std::test::Fail;

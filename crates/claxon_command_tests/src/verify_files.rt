@@ -1,8 +1,8 @@
 //! `claxon verify` of several files: named one by one, in a list, and in a folder. The status is the worst.
 use claxon_commands::verify::command;
-use claxon_tests::answers::{FRAME, head, joined};
-use claxon_tests::command_lines::owned;
-use claxon_tests::temporary_files::path_of;
+use claxon_testing::answers::{FRAME, head, joined};
+use claxon_testing::command_lines::owned;
+use claxon_testing::temporary_files::path_of;
 use std::fs;
 use std::test::Fail;
 

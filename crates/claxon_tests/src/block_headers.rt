@@ -1,9 +1,9 @@
 //! Metadata blocks with their headers, single and in sequence, and headers with a wrong length.
-use crate::answers::{COMMENT, Fault, fault_of, joined};
 use claxon::input::ReadBytes;
 use claxon::metadata::{
     MetadataBlock, MetadataBlockReader, VorbisComment, read_metadata_block_with_header,
 };
+use claxon_testing::answers::{COMMENT, Fault, fault_of, joined};
 use std::alloc::Global;
 use std::io::Cursor;
 use std::process::Abort;

@@ -1,9 +1,9 @@
 //! Frames from a reader that gives one byte per read into used buffers, and frames into buffers of exactly enough capacity.
-use crate::answers::{FRAME, Fault, fault_of};
-use crate::doubles::RefusesOne;
 use crate::sources::OneByte;
 use claxon::frame::{FrameReader, FrameResult};
 use claxon::input::{BufferedReader, ReadBytes};
+use claxon_testing::answers::{FRAME, Fault, fault_of};
+use claxon_testing::doubles::RefusesOne;
 use std::alloc::{AllocError, Allocator, Global};
 use std::io::Cursor;
 use std::process::Abort;

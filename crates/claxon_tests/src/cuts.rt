@@ -1,20 +1,10 @@
 //! A stream that is truncated at each byte, read one byte at a time.
-use crate::answers::{FRAME, Fault, Step, fault_of, head, joined};
 use crate::sources::OneByte;
-use claxon::input::ReadBytes;
-use claxon::{FlacReader, FlacSamples};
+use claxon::FlacReader;
+use claxon_testing::answers::{FRAME, Fault, Step, fault_of, head, joined, next_of};
 use std::alloc::Global;
 use std::io::Read;
 use std::test::Fail;
-
-// The result of the next call for a sample.
-fn next_of<R: ReadBytes + Drop>(samples: &mut FlacSamples<R>) -> Step {
-    match samples.next() {
-        Some(Ok(sample)) => Ok(Some(sample)),
-        Some(Err(error)) => Err(fault_of(&error)),
-        None => Ok(None),
-    }
-}
 
 // Whether the first call for a sample has this result, and all further ones are None.
 fn gives_once<R: Read + Drop>(flac: &mut FlacReader<R>, first: Step) -> bool {

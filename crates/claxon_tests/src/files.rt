@@ -1,11 +1,11 @@
 //! Streams in files.
-use crate::answers::{Fault, fault_of, head, joined, rest_of};
-use crate::temporary_files::{file_of, path_of};
 use claxon::{Error, FlacReader, FlacReaderOptions};
+use claxon_testing::answers::{Fault, fault_of, head, joined, rest_of};
+use claxon_testing::temporary_files::{file_of, path_of};
 use std::alloc::{AllocError, Global};
+use std::fs;
 use std::io::{Cursor, Read};
 use std::test::Fail;
-use std::{env, fs, process};
 
 /// The number of tags and of samples of an open file, or the error of opening it.
 type Found = Result<(usize, usize), Fault>;
@@ -153,16 +153,21 @@ const STREAMS: [&[u8]; 7] = [
     b"",
 ];
 
+// Whether a file of these bytes has this head.
+fn has_head(rt: &HostRuntime, bytes: &[u8], want: &str) -> Result<bool, Fail> {
+    let path = file_of(rt, "head", bytes)?;
+    let text = answer_of(rt.alloc(), FlacReader::open(rt, path.as_str()))?;
+    fs::remove_file(rt, path.as_str())?;
+    Ok(text.as_str() == want)
+}
+
 #[test]
 fn heads_of_files(rt: HostRuntime) -> Result<(), Fail> {
-    for (bytes, want) in [(TAGGED, TAGGED_HEAD), (UNNAMED, UNNAMED_HEAD)] {
-        let path = file_of(&rt, "head", bytes)?;
-        let text = answer_of(rt.alloc(), FlacReader::open(&rt, path.as_str()))?;
-        fs::remove_file(&rt, path.as_str())?;
-        assert_eq!(rt; text.as_str(), want);
+    for (bytes, want) in &[(TAGGED, TAGGED_HEAD), (UNNAMED, UNNAMED_HEAD)] {
+        assert!(rt; has_head(&rt, *bytes, *want)?, "{want}");
     }
-    for bytes in STREAMS {
-        assert!(rt; answers_as_in_memory(&rt, bytes)?, "{}", bytes.len());
+    for bytes in &STREAMS {
+        assert!(rt; answers_as_in_memory(&rt, *bytes)?, "{}", bytes.len());
     }
     Ok(())
 }

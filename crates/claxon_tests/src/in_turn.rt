@@ -1,12 +1,12 @@
 //! Several calls on one reader.
-use crate::answers::{
-    COMMENT, FRAME, Fault, PAIRS, Step, answers_each, fault_of, gives_each, head, joined,
-};
 use claxon::frame::FrameReader;
 use claxon::input::ReadBytes;
 use claxon::{FlacReader, FlacReaderOptions, read_head};
+use claxon_testing::answers::{
+    COMMENT, FRAME, Fault, PAIRS, Step, answers_each, fault_of, gives_each, head, joined,
+};
 use std::alloc::Global;
-use std::io::Cursor;
+use std::io::{Cursor, Read};
 use std::test::Fail;
 
 const END: Step = Ok(None);
@@ -37,7 +37,7 @@ const SAMPLES: [([&[u8]; 2], &[Step], &[Step]); 7] = [
 
 fn gives_in_turn(
     alloc: Global,
-    frames: [&[u8]; 2],
+    frames: &[&[u8]; 2],
     first: &[Step],
     again: &[Step],
 ) -> Result<bool, Fail> {
@@ -48,24 +48,22 @@ fn gives_in_turn(
 
 #[test]
 fn samples_in_turn(rt: HostRuntime) -> Result<(), Fail> {
-    for (row, (frames, first, again)) in SAMPLES.into_iter().enumerate() {
-        assert!(rt; gives_in_turn(rt.alloc(), frames, first, again)?, "{row}");
+    for (row, (frames, first, again)) in SAMPLES.iter().enumerate() {
+        assert!(rt; gives_in_turn(rt.alloc(), frames, *first, *again)?, "{row}");
     }
     Ok(())
 }
 
 // The calls for blocks of a frame with a wrong header CRC: each goes on at the first byte that wasn't consumed.
-#[rattlefmt::skip]
-const CALLS: [(u64, Step); 4] = [(7, BAD_HEADER), (9, NO_SYNC), (11, NO_SYNC), (11, END)];
+const CALLS: [Step; 4] = [BAD_HEADER, NO_SYNC, NO_SYNC, END];
 
-// The position of a reader after `count` of these calls, if they have these results.
-fn position_after(alloc: Global, bytes: &[u8], count: usize) -> Option<u64> {
+// The position after each of them.
+const POSITIONS: [u64; 4] = [7, 9, 11, 11];
+
+// The position of a reader after calls that have these results.
+fn position_after(alloc: Global, bytes: &[u8], wants: &[Step]) -> Option<u64> {
     let mut reader = FrameReader::new(Cursor::new(bytes));
-    let mut all = true;
-    for (_, want) in CALLS.iter().take(count) {
-        all = all && answers_each(alloc, &mut reader, &[*want]);
-    }
-    if all {
+    if answers_each(alloc, &mut reader, wants) {
         Some(reader.into_inner().position())
     } else {
         None
@@ -76,9 +74,10 @@ fn position_after(alloc: Global, bytes: &[u8], count: usize) -> Option<u64> {
 fn frames_in_turn(rt: HostRuntime) {
     let mut bytes = FRAME;
     bytes[6] = 0x9b;
-    for (row, (position, _)) in CALLS.into_iter().enumerate() {
+    for (row, position) in POSITIONS.iter().enumerate() {
+        let wants = &CALLS[..row.saturating_add(1).min(4)];
         assert!(rt;
-            position_after(rt.alloc(), &bytes, row.saturating_add(1)) == Some(position),
+            position_after(rt.alloc(), &bytes, wants) == Some(*position),
             "{row}"
         );
     }
@@ -130,9 +129,9 @@ fn ends_before_a_head(
 
 #[test]
 fn heads_in_turn(rt: HostRuntime) -> Result<(), Fail> {
-    for (row, (prefix, rest, want)) in HEADS.into_iter().enumerate() {
+    for (row, (prefix, rest, want)) in HEADS.iter().enumerate() {
         assert!(rt;
-            ends_before_a_head(rt.alloc(), prefix, rest, want)?,
+            ends_before_a_head(rt.alloc(), *prefix, *rest, *want)?,
             "{row}"
         );
     }
@@ -140,10 +139,7 @@ fn heads_in_turn(rt: HostRuntime) -> Result<(), Fail> {
 }
 
 // How many values the tags of this name have, where each is `Y`.
-fn values_of(alloc: Global, bytes: &[u8], options: FlacReaderOptions, name: &str) -> Option<usize> {
-    let Ok(flac) = FlacReader::new_ext(alloc, Cursor::new(bytes), options) else {
-        return None;
-    };
+fn values_of<R: Read>(flac: &FlacReader<R>, name: &str) -> Option<usize> {
     let (mut count, mut all) = (0usize, true);
     for value in flac.get_tag(name) {
         count = count.saturating_add(1);
@@ -167,10 +163,8 @@ fn tags_by_name(rt: HostRuntime) -> Result<(), Fail> {
             metadata_only: false,
             read_vorbis_comment: requested,
         };
-        assert!(rt;
-            values_of(rt.alloc(), &bytes, options, name) == Some(count),
-            "{name}"
-        );
+        let flac = FlacReader::new_ext(rt.alloc(), Cursor::new(bytes.as_slice()), options)?;
+        assert!(rt; values_of(&flac, name) == Some(count), "{name}");
     }
     Ok(())
 }

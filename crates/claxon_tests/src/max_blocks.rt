@@ -1,6 +1,6 @@
 //! The maximum number of metadata blocks of a stream.
-use crate::answers::{Fault, fault_of, head, joined};
 use claxon::{FlacReader, FlacReaderOptions};
+use claxon_testing::answers::{Fault, fault_of, head, joined};
 use std::alloc::Global;
 use std::io::Cursor;
 use std::test::Fail;

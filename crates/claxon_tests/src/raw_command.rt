@@ -1,9 +1,9 @@
 //! The command of `claxon_raw`: samples and tags of files, and its arguments.
-use crate::answers::{FIVES, FRAME, PAIRS, head, joined, two_frames};
-use crate::command_lines::{Outcome, is_outcome, owned};
-use crate::doubles::sinks::Sink;
-use crate::temporary_files::{file_of, path_of};
 use claxon_command_line::arguments::words;
+use claxon_testing::answers::{FIVES, FRAME, PAIRS, head, joined, two_frames};
+use claxon_testing::command_lines::{Outcome, is_outcome, owned};
+use claxon_testing::doubles::sinks::Sink;
+use claxon_testing::temporary_files::{file_of, path_of};
 use claxon_write::command;
 use linked_list_allocator::LocalHeap;
 use std::alloc::Global;

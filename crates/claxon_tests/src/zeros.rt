@@ -1,8 +1,8 @@
 //! Runs of some 2^32 zeros in subframes.
-use crate::answers::{Fault, fault_of};
 use crate::sources::ZerosBetween;
 use claxon::input::{Bitstream, BufferedReader, ReadBytes};
 use claxon::subframe;
+use claxon_testing::answers::{Fault, fault_of};
 use std::process::Abort;
 use std::test::Fail;
 

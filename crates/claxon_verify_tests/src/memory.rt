@@ -1,7 +1,7 @@
 //! Refused memory, for each request of a stream that is verified.
 use crate::reports::report_of;
-use claxon_tests::answers::{FRAME, Fault, SECOND, fault_of, head, joined, two_frames};
-use claxon_tests::doubles::RefusesOne;
+use claxon_testing::answers::{FRAME, Fault, SECOND, fault_of, head, joined, two_frames};
+use claxon_testing::doubles::RefusesOne;
 use linked_list_allocator::LocalHeap;
 use std::alloc::{Allocator, Global};
 use std::io::Cursor;

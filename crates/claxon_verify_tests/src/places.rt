@@ -2,7 +2,7 @@
 use crate::reports::report_of;
 use crate::streams::{FIXED, OTHER_RATE, RATE, VARIABLE, frame};
 use crate::verify::{CRC, Found, Wrong, found_of};
-use claxon_tests::answers::{FRAME, Fault, fault_of, head};
+use claxon_testing::answers::{FRAME, Fault, fault_of, head};
 use claxon_verify::report::Places;
 use linked_list_allocator::LocalHeap;
 use std::alloc::{AllocError, Allocator, Global};

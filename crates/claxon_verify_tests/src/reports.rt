@@ -1,7 +1,7 @@
 //! Reports of streams.
 use claxon::input::ReadBytes;
 use claxon_command_line::progress::Progress;
-use claxon_tests::doubles::sinks::Sink;
+use claxon_testing::doubles::sinks::Sink;
 use claxon_verify::report::Report;
 use claxon_verify::verify;
 use std::alloc::Allocator;

@@ -1,6 +1,6 @@
 //! Streams of small frames.
 use claxon::running::Running;
-use claxon_tests::answers::head;
+use claxon_testing::answers::head;
 use std::alloc::{AllocError, Global};
 
 /// The second byte of a frame whose block size is fixed.

@@ -1,6 +1,6 @@
 //! Streams with metadata blocks that aren't supported, whose frames are judged.
 use crate::reports::report_of;
-use claxon_tests::answers::{FRAME, Fault, fault_of, head, joined};
+use claxon_testing::answers::{FRAME, Fault, fault_of, head, joined};
 use claxon_verify::report::{Report, UnsupportedBlock};
 use std::io::Cursor;
 use std::test::Fail;

@@ -176,30 +176,31 @@ fn crc16_of<R: ReadBytes>(input: &mut R, count: u32, buffer: &mut [u8]) -> io::R
     Ok(reader.value())
 }
 
-// Each byte is skipped or read: all or none are skipped, and of three bytes also only the first.
+// Bytes, how many of them are skipped before the others are read, and the CRCs: all or none are skipped, and of three bytes also
+// only the first.
+const CRCS: [(&[u8], u32, u8, u16); 7] = [
+    (&[0x1f], 1, 0x5d, 0x8041),
+    (&[0x04, 0x01], 2, 0x53, 0x1806),
+    (&[0x61, 0x62, 0x63], 3, 0x5f, 0xcadb),
+    (&[0x61, 0x62, 0x63], 1, 0x5f, 0xcadb),
+    (&[0x61, 0x62, 0x63], 0, 0x5f, 0xcadb),
+    // The check values of both polynomials in CRC catalogues.
+    (b"123456789", 9, 0xf4, 0xfee8),
+    (b"123456789", 4, 0xf4, 0xfee8),
+];
+
+fn crcs_of(bytes: &[u8], skipped: u32) -> io::Result<(u8, u16)> {
+    let mut buffer = [0; 9];
+    let rest = &mut buffer[..bytes.len().saturating_sub(skipped as usize).min(9)];
+    let crc8 = crc8_of(&mut Cursor::new(bytes), skipped, rest)?;
+    let crc16 = crc16_of(&mut Cursor::new(bytes), skipped, rest)?;
+    Ok((crc8, crc16))
+}
+
 #[test]
 fn crcs(rt: HostRuntime) -> Result<(), Fail> {
-    let rows: [(&[u8], u32, u8, u16); 7] = [
-        (&[0x1f], 1, 0x5d, 0x8041),
-        (&[0x04, 0x01], 2, 0x53, 0x1806),
-        (&[0x61, 0x62, 0x63], 3, 0x5f, 0xcadb),
-        (&[0x61, 0x62, 0x63], 1, 0x5f, 0xcadb),
-        (&[0x61, 0x62, 0x63], 0, 0x5f, 0xcadb),
-        // The check values of both polynomials in CRC catalogues.
-        (b"123456789", 9, 0xf4, 0xfee8),
-        (b"123456789", 4, 0xf4, 0xfee8),
-    ];
-    for (bytes, skipped, crc8, crc16) in rows {
-        let mut buffer = [0; 9];
-        let rest = &mut buffer[..(bytes.len() as u32).saturating_sub(skipped).min(9) as usize];
-        assert!(rt;
-            crc8_of(&mut Cursor::new(bytes), skipped, rest)? == crc8,
-            "{skipped}"
-        );
-        assert!(rt;
-            crc16_of(&mut Cursor::new(bytes), skipped, rest)? == crc16,
-            "{skipped}"
-        );
+    for (bytes, skipped, crc8, crc16) in &CRCS {
+        assert!(rt; crcs_of(*bytes, *skipped)? == (*crc8, *crc16), "{skipped}");
     }
     Ok(())
 }

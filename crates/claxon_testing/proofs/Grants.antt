@@ -16,7 +16,7 @@ use denote.Steps.{nothing, only}
 use denote.Triple.Statement.{Contract}
 use denote.Triple.Spec.{triple_of}
 use Rattle.std.specs.contracts.cell.Cell as CE
-use Rattle.claxon_tests.specs.contracts.doubles.is_granted as G
+use Rattle.claxon_testing.specs.contracts.doubles.is_granted as G
 
 abbrev Counter : RattleType
 Counter = CE.the_row u64

@@ -38,11 +38,11 @@ use denote.RawPtr.{Ptr, block_ptr, null_ptr, ptr_val, rawptr_vals, rawptr_Tells}
 use denote.Builtin.{usize, RawPtr, RefOf}
 use denote.Triple.Call.{calls_at}
 use Rattle.std.proofs.alloc.Calls.{Al, α, seen, token, gives_key, Gives, at_gives, Gives-goes, Gives-Gives}
-use Rattle.claxon_tests.specs.contracts.doubles.RefusesOne as wrapper
-use Rattle.claxon_tests.specs.contracts.doubles.RefusesOneAllocator.deallocate as F
-use Rattle.claxon_tests.specs.contracts.doubles.RefusesOneAllocator.deallocate.Key as key
-use Rattle.claxon_tests.proofs.doubles.RefusesOneAllocator.deallocate.Statement as stated
-use Rattle.claxon_tests.proofs.doubles.RefusesOneAllocator.deallocate.Code as code
+use Rattle.claxon_testing.specs.contracts.doubles.RefusesOne as wrapper
+use Rattle.claxon_testing.specs.contracts.doubles.RefusesOneAllocator.deallocate as F
+use Rattle.claxon_testing.specs.contracts.doubles.RefusesOneAllocator.deallocate.Key as key
+use Rattle.claxon_testing.proofs.doubles.RefusesOneAllocator.deallocate.Statement as stated
+use Rattle.claxon_testing.proofs.doubles.RefusesOneAllocator.deallocate.Code as code
 
 module _ (Z : Al) where
   abbrev args : Args

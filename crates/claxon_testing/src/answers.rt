@@ -66,8 +66,8 @@ pub struct Run {
     pub fault: Option<Fault>,
 }
 
-// The result of the next call for a sample. One function has the call, since each that has it takes long to prove.
-fn next_of<R: ReadBytes + Drop, A: Allocator + Copy>(samples: &mut FlacSamples<R, A>) -> Step {
+/// The result of the next call for a sample. One function has the call, since each that has it takes long to prove.
+pub fn next_of<R: ReadBytes + Drop, A: Allocator + Copy>(samples: &mut FlacSamples<R, A>) -> Step {
     match samples.next() {
         Some(Ok(sample)) => Ok(Some(sample)),
         Some(Err(error)) => Err(fault_of(&error)),
