@@ -8,9 +8,6 @@ use claxon_command_line::text::md5_text;
 use claxon_verify::report::{Place, Report};
 use std::alloc::{AllocError, Global};
 
-#[cfg(test)]
-mod tests;
-
 /// The object of a file with a report, and a line feed.
 pub fn report_object(
     alloc: Global,

@@ -4,8 +4,6 @@
 pub mod container;
 pub mod json_report;
 pub mod print;
-#[cfg(test)]
-mod reports;
 pub mod tally;
 pub mod text;
 pub mod verdict;

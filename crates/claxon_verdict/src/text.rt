@@ -27,9 +27,6 @@ use claxon_verify::report::{
 };
 use std::alloc::{AllocError, Global};
 
-#[cfg(test)]
-mod tests;
-
 // The decoder's text, which is that of claxon 0.4.3.
 const NEGATIVE_SHIFT: &str =
     "a negative quantized linear predictor coefficient shift is not supported, please file a bug.";

@@ -121,9 +121,9 @@ fn goes_on(
 
 #[test]
 fn frames_with_a_failed_read(rt: HostRuntime) -> Result<(), Fail> {
-    for (reads, counts) in FRAMES.into_iter().enumerate() {
+    for (reads, counts) in FRAMES.iter().enumerate() {
         for kind in FAILURES {
-            let goes_on = goes_on(rt.alloc(), reads as u32, kind, counts)?;
+            let goes_on = goes_on(rt.alloc(), reads as u32, kind, *counts)?;
             assert!(rt; goes_on, "{reads}");
         }
     }

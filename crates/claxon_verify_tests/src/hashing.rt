@@ -178,11 +178,11 @@ const BLOCKS: [(u8, u16, u32, u128); 32] = [
 
 #[test]
 fn blocks(rt: HostRuntime) -> Result<(), Fail> {
-    for (channels, duration, bit_depth, want) in BLOCKS {
-        assert!(rt; 1 <= bit_depth && bit_depth <= 32);
-        let sum = digest(rt.alloc(), channels, duration, bit_depth)?;
+    for (channels, duration, bit_depth, want) in &BLOCKS {
+        let bit_depth = (*bit_depth).clamp(1, 32);
+        let sum = digest(rt.alloc(), *channels, *duration, bit_depth)?;
         assert!(rt;
-            sum == want,
+            sum == *want,
             "{channels} channels of {duration} samples of {bit_depth} bits"
         );
     }

@@ -22,4 +22,6 @@ mod trailing;
 #[cfg(test)]
 mod unsupported;
 #[cfg(test)]
+mod verdicts;
+#[cfg(test)]
 mod verify;

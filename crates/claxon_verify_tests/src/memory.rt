@@ -1,4 +1,5 @@
 //! Refused memory, for each request of a stream that is verified.
+use crate::places::numbers_of;
 use crate::reports::report_of;
 use claxon_testing::answers::{FRAME, Fault, SECOND, fault_of, head, joined, two_frames};
 use claxon_testing::doubles::RefusesOne;
@@ -36,24 +37,13 @@ fn streams(rt: HostRuntime) -> Result<(), Fail> {
     Ok(())
 }
 
-// The number of places of a stream that are there, and of those that are left out, if the request after `granted` ones is refused.
-fn places_of(alloc: Global, bytes: &[u8], granted: u64) -> Result<(usize, u64), Fault> {
-    let heap = RefusesOne::new(alloc, granted);
-    match report_of(&heap, &mut Cursor::new(bytes), false) {
-        Ok(report) => {
-            let places = &report.found.places;
-            Ok((places.more.len(), places.left_out))
-        }
-        Err(error) => Err(fault_of(&error)),
-    }
-}
-
 // The buffer of the blocks is requested first, and then memory for the places after the first. A place is left out without it.
 #[test]
 fn places(rt: HostRuntime) -> Result<(), Fail> {
     let bytes = joined(rt.alloc(), &[&head(0x80), &SECOND, &FRAME])?;
     for (granted, want) in [(0, Err(Fault::Memory)), (1, Ok((0, 1))), (2, Ok((1, 0)))] {
-        assert!(rt; places_of(rt.alloc(), &bytes, granted) == want);
+        let heap = RefusesOne::new(rt.alloc(), granted);
+        assert!(rt; numbers_of(&heap, &bytes) == want, "{granted}");
     }
     Ok(())
 }

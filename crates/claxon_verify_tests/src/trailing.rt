@@ -18,10 +18,11 @@ const ROWS: [(&[u8], &[u8], u64, Trailing); 9] = [
 
 #[test]
 fn kinds(rt: HostRuntime) {
-    for (front, back, count, want) in ROWS {
-        let [front, back] = [front, back].map(|bytes| FirstBytes::zero().after(bytes));
-        let got = BytesAfter::new().with(front).with(back).kind(count);
-        assert!(rt; is_same(got, want));
+    for (front, back, count, want) in &ROWS {
+        let front = FirstBytes::zero().after(*front);
+        let back = FirstBytes::zero().after(*back);
+        let got = BytesAfter::new().with(front).with(back).kind(*count);
+        assert!(rt; is_same(got, *want));
     }
 }
 

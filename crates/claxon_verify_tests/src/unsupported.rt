@@ -2,6 +2,7 @@
 use crate::reports::report_of;
 use claxon_testing::answers::{FRAME, Fault, fault_of, head, joined};
 use claxon_verify::report::{Report, UnsupportedBlock};
+use std::alloc::{AllocError, Global};
 use std::io::Cursor;
 use std::test::Fail;
 
@@ -74,7 +75,7 @@ const PADDING: &[u8] = &[0x81, 0, 0, 1, 0xff];
 const TOO_LONG: Fault = Fault::Format("Vorbis comment too long for Vorbis comment block");
 
 // Blocks between the streaminfo and the padding; and what is said where a frame follows that is right, after so many bytes.
-const ROWS: [(&[&[u8]], Result<Option<&str>, Fault>); 20] = [
+const ROWS: [(&[&[u8]], Result<Option<&'static str>, Fault>); 20] = [
     (&[], Ok(None)),
     (&[NO_TAGS], Ok(None)),
     (&[TAG], Ok(None)),
@@ -109,26 +110,44 @@ const ROWS: [(&[&[u8]], Result<Option<&str>, Fault>); 20] = [
     ),
 ];
 
+// The frame with a wrong CRC.
+fn wrong_frame() -> [u8; 11] {
+    let mut frame = FRAME;
+    frame[10] ^= 1;
+    frame
+}
+
+// What is said of a stream with these blocks, where such a frame follows, and the position of that.
+fn said_of(alloc: Global, blocks: &[&[u8]], frame: &[u8]) -> Result<(Said, u64), AllocError> {
+    let mut bytes = Vec::from_slice(alloc, &head(0))?;
+    for block in blocks {
+        bytes.extend_from_slice(*block)?;
+    }
+    bytes.extend_from_slice(PADDING)?;
+    let start = bytes.len() as u64;
+    bytes.extend_from_slice(frame)?;
+    Ok((
+        said(report_of(alloc, &mut Cursor::new(bytes.as_slice()), true)),
+        start,
+    ))
+}
+
+// What is to be said where the frame is right, and where it is wrong, which begins at this position.
+fn wanted(want: Result<Option<&'static str>, Fault>, is_right: bool, start: u64) -> Said {
+    match want {
+        Ok(why) if is_right => Ok((why, why.is_none(), 1, None)),
+        Ok(why) => Ok((why, false, 0, Some(start))),
+        Err(fault) => Err(fault),
+    }
+}
+
 #[test]
 fn heads(rt: HostRuntime) -> Result<(), Fail> {
-    let alloc = rt.alloc();
-    for (row, (blocks, wants)) in ROWS.iter().enumerate() {
-        let middle = joined(alloc, *blocks)?;
-        let bytes = joined(alloc, &[&head(0), middle.as_slice(), PADDING, &FRAME])?;
-        let start = middle.len().saturating_add(47);
-        let right = said(report_of(alloc, &mut Cursor::new(bytes.as_slice()), true));
-        let mut frame = FRAME;
-        frame[10] ^= 1;
-        let bytes = joined(alloc, &[&head(0), middle.as_slice(), PADDING, &frame])?;
-        let wrong = said(report_of(alloc, &mut Cursor::new(bytes.as_slice()), true));
-        match *wants {
-            Ok(why) => {
-                assert!(rt; right == Ok((why, why.is_none(), 1, None)), "{row}");
-                let first = Some(start as u64);
-                assert!(rt; wrong == Ok((why, false, 0, first)), "{row}");
-            }
-            Err(fault) => assert!(rt; right == Err(fault) && wrong == Err(fault), "{row}"),
-        }
+    for (row, (blocks, want)) in ROWS.iter().enumerate() {
+        let (right, start) = said_of(rt.alloc(), *blocks, &FRAME)?;
+        assert!(rt; right == wanted(*want, true, start), "{row}");
+        let (wrong, start) = said_of(rt.alloc(), *blocks, &wrong_frame())?;
+        assert!(rt; wrong == wanted(*want, false, start), "{row}");
     }
     Ok(())
 }

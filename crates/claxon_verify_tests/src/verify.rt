@@ -6,11 +6,12 @@ use claxon_commands::verify::command;
 use claxon_testing::answers::{
     DEEP_FRAME, FRAME, Fault, PAIRS, SECOND, fault_of, frames_in_order, head, joined,
 };
-use claxon_testing::command_lines::owned;
+use claxon_testing::command_lines::{Outcome, is_outcome, owned};
 use claxon_testing::doubles::sinks::Sink;
 use claxon_testing::temporary_files::{file_of, path_of};
 use claxon_verify::report::{Damage, Place, Report};
 use claxon_verify::verify;
+use std::alloc::{AllocError, Global};
 use std::fs;
 use std::io::{self, Cursor, ErrorKind};
 use std::test::Fail;
@@ -69,6 +70,25 @@ fn said(report: &Report) -> Said {
         first,
         report.is_right,
     )
+}
+
+// What else it says: the number of samples in the head, and whether one byte or more bytes are left after the last frame.
+type Rest = (Option<u64>, bool, bool);
+
+// What is said of these bytes. One function has the call, since each that has it takes long to prove.
+fn said_of(alloc: Global, bytes: &[u8], computes_md5: bool) -> Option<(Said, Rest, &'static str)> {
+    match report_of(alloc, &mut Cursor::new(bytes), computes_md5) {
+        Ok(report) => {
+            let has_byte_left = report.found.notes.has_byte_left;
+            let rest = (
+                report.info.samples,
+                has_byte_left,
+                report.trailing.is_some(),
+            );
+            Some((said(&report), rest, verdict_name(report.md5)))
+        }
+        Err(_) => None,
+    }
 }
 
 pub(crate) const CRC: Wrong = Wrong::Fault(Fault::Format("frame CRC mismatch"));
@@ -130,16 +150,21 @@ fn damaged(wrong: [bool; 2]) -> [u8; 64] {
     bytes
 }
 
-#[test]
-fn frames_and_faults(rt: HostRuntime) -> Result<(), Fail> {
-    for (len, wrong, want) in ROWS {
-        let bytes = damaged(wrong);
-        let report = report_of(rt.alloc(), &mut Cursor::new(&bytes[..len.min(64)]), false)?;
-        assert!(rt; said(&report) == want, "{len}");
-        assert!(rt; report.info.samples == Some(1));
-        assert!(rt; report.found.notes.has_byte_left == (len == 43 || len == 54));
+fn is_row(alloc: Global, len: usize, wrong: [bool; 2], want: Said) -> bool {
+    let has_byte_left = len == 43 || len == 54;
+    match said_of(alloc, front(&damaged(wrong), len), false) {
+        Some((said, (samples, is_left, _), _)) => {
+            said == want && samples == Some(1) && is_left == has_byte_left
+        }
+        None => false,
     }
-    Ok(())
+}
+
+#[test]
+fn frames_and_faults(rt: HostRuntime) {
+    for (len, wrong, want) in &ROWS {
+        assert!(rt; is_row(rt.alloc(), *len, *wrong, *want), "{len}");
+    }
 }
 
 // Frames of number 1 with the sample 5: of variable blocks, of 48,000 Hz, and of 16 bits.
@@ -213,16 +238,32 @@ const ORDERS: [(&[&[u8]], Said); 8] = [
     ),
 ];
 
-#[test]
-fn orders_of_frames(rt: HostRuntime) -> Result<(), Fail> {
-    for (row, (frames, want)) in ORDERS.iter().enumerate() {
-        let bytes = joined(rt.alloc(), *frames)?;
-        let bytes = joined(rt.alloc(), &[&head(0x80), &bytes])?;
-        let report = report_of(rt.alloc(), &mut Cursor::new(bytes.as_slice()), true)?;
-        assert!(rt; said(&report) == *want, "{row}");
-        assert!(rt; report.trailing.is_some() == (row == 7), "{row}");
+// The smallest head, for other samples, and frames.
+fn stream_of(alloc: Global, format: [u8; 2], frames: &[&[u8]]) -> Result<Vec<u8>, AllocError> {
+    let mut bytes = Vec::from_slice(alloc, &head_for(format))?;
+    for frame in frames {
+        bytes.extend_from_slice(*frame)?;
     }
-    Ok(())
+    Ok(bytes)
+}
+
+// What is said of such a stream, and whether bytes are after its last frame.
+fn said_of_stream(alloc: Global, format: [u8; 2], frames: &[&[u8]]) -> Option<(Said, bool)> {
+    match stream_of(alloc, format, frames) {
+        Ok(bytes) => match said_of(alloc, &bytes, true) {
+            Some((said, (_, _, is_trailing), _)) => Some((said, is_trailing)),
+            None => None,
+        },
+        Err(_) => None,
+    }
+}
+
+#[test]
+fn orders_of_frames(rt: HostRuntime) {
+    for (row, (frames, want)) in ORDERS.iter().enumerate() {
+        let said = said_of_stream(rt.alloc(), MONO_8_BITS, *frames);
+        assert!(rt; said == Some((*want, row == 7)), "{row}");
+    }
 }
 
 // The smallest head, for other samples: these are the bytes in which their bit depth and the number of channels are.
@@ -294,14 +335,11 @@ const WIDE_SAMPLES: [([u8; 2], &[&[u8]], Said); 7] = [
 ];
 
 #[test]
-fn wide_samples(rt: HostRuntime) -> Result<(), Fail> {
+fn wide_samples(rt: HostRuntime) {
     for (row, (format, frames, want)) in WIDE_SAMPLES.iter().enumerate() {
-        let bytes = joined(rt.alloc(), *frames)?;
-        let bytes = joined(rt.alloc(), &[&head_for(*format), &bytes])?;
-        let report = report_of(rt.alloc(), &mut Cursor::new(bytes.as_slice()), true)?;
-        assert!(rt; said(&report) == *want, "{row}");
+        let said = said_of_stream(rt.alloc(), *format, *frames);
+        assert!(rt; said == Some((*want, false)), "{row}");
     }
-    Ok(())
 }
 
 fn verdict_name(md5: Md5Verdict) -> &'static str {
@@ -334,19 +372,20 @@ fn with_sum(sum: &[u8; 16]) -> [u8; 64] {
     bytes
 }
 
-#[test]
-fn md5_sums(rt: HostRuntime) -> Result<(), Fail> {
-    for (sum, computes_md5, want) in SUMS {
-        let bytes = with_sum(&sum);
-        let report = report_of(
-            rt.alloc(),
-            &mut Cursor::new(front(&bytes, 53)),
-            computes_md5,
-        )?;
-        assert!(rt; verdict_name(report.md5) == want, "{want}");
-        assert!(rt; report.is_right == (want != "wrong"), "{want}");
+// What becomes of the sum, and whether the stream is right.
+fn sum_of(alloc: Global, bytes: &[u8], computes_md5: bool) -> Option<(&'static str, bool)> {
+    match said_of(alloc, bytes, computes_md5) {
+        Some(((_, _, is_right), _, name)) => Some((name, is_right)),
+        None => None,
     }
-    Ok(())
+}
+
+#[test]
+fn md5_sums(rt: HostRuntime) {
+    for (sum, computes_md5, want) in &SUMS {
+        let found = sum_of(rt.alloc(), front(&with_sum(sum), 53), *computes_md5);
+        assert!(rt; found == Some((*want, *want != "wrong")), "{want}");
+    }
 }
 
 // A fault of the head, an end inside it, and no bytes.
@@ -368,16 +407,23 @@ fn faults_of_heads(rt: HostRuntime) {
 // The percentage of one expected sample, once, and nothing without a label.
 #[test]
 fn progress(rt: HostRuntime) {
-    let bytes = frames_in_order();
-    for (label, want) in [(Some("  a"), "\r100 %  a\r\x1b[K"), (None, "")] {
-        let mut errors: Vec<u8> = Vec::new(rt.alloc());
-        let mut progress = Progress::new(&mut errors, label);
-        let mut input = Cursor::new(bytes.as_slice());
-        let report = verify(rt.alloc(), &mut input, true, &mut progress);
-        progress.clear();
-        assert!(rt; report.is_ok_and(|report| report.found.frames == 2));
-        assert!(rt; errors.as_slice() == want.as_bytes());
+    for (label, want) in &[(Some("  a"), "\r100 %  a\r\x1b[K"), (None, "")] {
+        assert!(rt; shows(rt.alloc(), *label, *want), "{want}");
     }
+}
+
+// Whether this is shown of two frames with such a label.
+fn shows(alloc: Global, label: Option<&str>, want: &str) -> bool {
+    let bytes = frames_in_order();
+    let mut errors: Vec<u8> = Vec::new(alloc);
+    let mut progress = Progress::new(&mut errors, label);
+    let mut input = Cursor::new(bytes.as_slice());
+    let is_whole = match verify(alloc, &mut input, true, &mut progress) {
+        Ok(report) => report.found.frames == 2,
+        Err(_) => false,
+    };
+    progress.clear();
+    is_whole && errors.as_slice() == want.as_bytes()
 }
 
 // Lengths and wrong CRCs, as in `ROWS`, and the status, the text of the line, and that of the place.
@@ -440,34 +486,57 @@ const LINES: [(usize, [bool; 2], u8, &str, &str); 8] = [
     ),
 ];
 
-// Whether standard input with these bytes has this status, a line with this text, and one of a place, if that isn't empty.
-fn has_lines(
+// What a command line comes to.
+fn outcome_of(rt: &HostRuntime, words: &[&str], input: &[u8]) -> Result<Outcome, AllocError> {
+    let words = owned(rt.alloc(), words)?;
+    let (mut output, mut errors) = (Vec::new(rt.alloc()), Vec::new(rt.alloc()));
+    let status = command(rt, &words, input, &mut output, false, &mut errors);
+    Ok(Outcome {
+        status,
+        output,
+        errors,
+    })
+}
+
+// Whether it comes to that.
+fn comes_to(
     rt: &HostRuntime,
-    bytes: &[u8],
+    words: &[&str],
+    input: &[u8],
     status: u8,
-    text: &str,
-    place: &str,
-) -> Result<bool, Fail> {
-    let words = owned(rt.alloc(), &["-"])?;
-    let (mut output, mut errors): (Vec<u8>, Vec<u8>) = (Vec::new(rt.alloc()), Vec::new(rt.alloc()));
-    let got = command(rt, &words, bytes, &mut output, false, &mut errors);
-    let mut lines = format!(in rt.alloc(); "standard input: {text}\n")?;
-    if !place.is_empty() {
-        write!(&mut lines, "standard input:   {place}\n")?;
+    output: &str,
+    errors: &str,
+) -> bool {
+    match outcome_of(rt, words, input) {
+        Ok(outcome) => is_outcome(&outcome, status, output.as_bytes(), errors.as_bytes()),
+        Err(_) => false,
     }
-    Ok(got == status && output.as_slice() == lines.as_bytes() && errors.is_empty())
+}
+
+// A line with this text, and one of a place, if that isn't empty.
+fn lines_of(alloc: Global, text: &str, place: &str) -> Result<String, AllocError> {
+    if place.is_empty() {
+        return format!(in alloc; "standard input: {text}\n");
+    }
+    format!(in alloc; "standard input: {text}\nstandard input:   {place}\n")
+}
+
+// Whether standard input with these bytes has this status, and these lines.
+fn has_lines(rt: &HostRuntime, bytes: &[u8], status: u8, text: &str, place: &str) -> bool {
+    match lines_of(rt.alloc(), text, place) {
+        Ok(lines) => comes_to(rt, &["-"], bytes, status, lines.as_str(), ""),
+        Err(_) => false,
+    }
 }
 
 #[test]
-fn lines(rt: HostRuntime) -> Result<(), Fail> {
-    for (len, wrong, status, text, place) in LINES {
-        let bytes = damaged(wrong);
+fn lines(rt: HostRuntime) {
+    for (len, wrong, status, text, place) in &LINES {
         assert!(rt;
-            has_lines(&rt, &bytes[..len.min(64)], status, text, place)?,
+            has_lines(&rt, front(&damaged(*wrong), *len), *status, *text, *place),
             "{len}"
         );
     }
-    Ok(())
 }
 
 // Headers that are refused at their fourth byte because of a reserved code, after a frame.
@@ -484,7 +553,7 @@ fn reserved_codes(rt: HostRuntime) -> Result<(), Fail> {
                 1,
                 "wrong, 2 frames, 2 samples, but the streaminfo says 1, 1 place",
                 "bytes 64 to 68, samples 2 to 2: Ill-formed FLAC stream: invalid frame header, encountered reserved value",
-            )?
+            )
         );
     }
     Ok(())
@@ -502,7 +571,7 @@ fn samples_of_32_bits(rt: HostRuntime) -> Result<(), Fail> {
             0,
             "ok, 1 frame, 1 sample, no MD5 sum",
             "",
-        )?
+        )
     );
     let wide = joined(alloc, &[&head, &[0xff, 0xf8, 0x69, 0x0e]])?;
     assert!(rt;
@@ -512,7 +581,7 @@ fn samples_of_32_bits(rt: HostRuntime) -> Result<(), Fail> {
             3,
             "not supported, 32-bit samples",
             "",
-        )?
+        )
     );
     Ok(())
 }
@@ -522,6 +591,16 @@ fn front(bytes: &[u8], len: usize) -> &[u8] {
     &bytes[..len.min(bytes.len())]
 }
 
+// Whether that is said of a right file, one that isn't there, an empty standard input, and the first once more.
+fn shows_several(rt: &HostRuntime, right: &str, none: &str) -> Result<bool, AllocError> {
+    let all = format!(in rt.alloc();
+        "{right}: ok, 1 frame, 1 sample, no MD5 sum\nstandard input: wrong, truncated: the file ends inside the metadata\n{right}: ok, 1 frame, 1 sample, no MD5 sum\n"
+    )?;
+    let missing = format!(in rt.alloc(); "{none}: No such file or directory\n")?;
+    let words = [right, none, "-", right];
+    Ok(comes_to(rt, &words, b"", 1, all.as_str(), missing.as_str()))
+}
+
 // A right file, one that isn't there, and standard input with a wrong stream. Only the last writes fail.
 #[test]
 fn several_files(rt: HostRuntime) -> Result<(), Fail> {
@@ -529,50 +608,51 @@ fn several_files(rt: HostRuntime) -> Result<(), Fail> {
         file_of(&rt, "verify_right", front(&damaged([false; 2]), 53))?,
         path_of(&rt, "verify_none")?,
     );
-    let (right, none) = (right.as_str(), none.as_str());
-    let words = owned(rt.alloc(), &[right, none, "-", right])?;
-    let one = format!(in rt.alloc(); "{right}: ok, 1 frame, 1 sample, no MD5 sum\n")?;
-    let wrong = "standard input: wrong, truncated: the file ends inside the metadata\n";
-    let all = format!(in rt.alloc(); "{one}{wrong}{one}")?;
-    let missing = format!(in rt.alloc(); "{none}: No such file or directory\n")?;
-    let (mut output, mut errors): (Vec<u8>, Vec<u8>) = (Vec::new(rt.alloc()), Vec::new(rt.alloc()));
-    let status = command(&rt, &words, b"".as_slice(), &mut output, false, &mut errors);
-    fs::remove_file(&rt, right)?;
-    assert!(rt; status == 1 && output.as_slice() == all.as_bytes());
-    assert!(rt; errors.as_slice() == missing.as_bytes());
+    let is_right = shows_several(&rt, right.as_str(), none.as_str())?;
+    fs::remove_file(&rt, right.as_str())?;
+    assert!(rt; is_right);
     Ok(())
+}
+
+// Whether a command line only says that the output failed.
+fn is_lost(
+    rt: &HostRuntime,
+    words: &[&str],
+    writes_left: u32,
+    fails_at_flush: bool,
+) -> Result<bool, AllocError> {
+    let words = owned(rt.alloc(), words)?;
+    let text = format!(in rt.alloc();
+        "standard output: {}\n",
+        io::Error::from(ErrorKind::StorageFull)
+    )?;
+    let bytes = damaged([false; 2]);
+    let mut output = Sink::new(64, writes_left, fails_at_flush, ErrorKind::StorageFull);
+    let mut errors: Vec<u8> = Vec::new(rt.alloc());
+    let input = front(&bytes, 53);
+    let status = command(rt, &words, input, &mut output, false, &mut errors);
+    Ok(status == 1 && errors.as_slice() == text.as_bytes())
 }
 
 // A write fails, and the second file isn't read; or the flush.
 #[test]
 fn lost_output(rt: HostRuntime) -> Result<(), Fail> {
-    let bytes = damaged([false; 2]);
     let rows: [(&[&str], u32, bool); 3] = [
         (&["-", "-"], 0, false),
         (&["-", "-"], 9, true),
         (&["--version"], 9, true),
     ];
-    for (words, writes_left, fails_at_flush) in rows {
-        let words = owned(rt.alloc(), words)?;
-        let mut output = Sink::new(64, writes_left, fails_at_flush, ErrorKind::StorageFull);
-        let mut errors: Vec<u8> = Vec::new(rt.alloc());
-        let status = command(
-            &rt,
-            &words,
-            front(&bytes, 53),
-            &mut output,
-            false,
-            &mut errors,
+    for (words, writes_left, fails_at_flush) in &rows {
+        assert!(rt;
+            is_lost(&rt, *words, *writes_left, *fails_at_flush)?,
+            "{words:?}"
         );
-        let failure = io::Error::from(ErrorKind::StorageFull);
-        let text = format!(in rt.alloc(); "standard output: {failure}\n")?;
-        assert!(rt; status == 1 && errors.as_slice() == text.as_bytes());
     }
     Ok(())
 }
 
 #[test]
-fn command_lines(rt: HostRuntime) -> Result<(), Fail> {
+fn command_lines(rt: HostRuntime) {
     let usage =
         "usage: claxon verify [--no-md5] [--brief] [--json] [-q] [-r] [--summary] [--files0-from FILE] [--] FILE..\n";
     let other =
@@ -583,14 +663,7 @@ fn command_lines(rt: HostRuntime) -> Result<(), Fail> {
         (&["--files0-from", "-", "a.flac"], usage),
         (&["-t", "-"], other),
     ];
-    for (words, text) in rows {
-        let words = owned(rt.alloc(), words)?;
-        let (mut output, mut errors): (Vec<u8>, Vec<u8>) = (
-            Vec::new(rt.alloc()),
-            Vec::new(rt.alloc()),
-        );
-        let status = command(&rt, &words, b"".as_slice(), &mut output, false, &mut errors);
-        assert!(rt; status == 2 && output.is_empty() && errors.as_slice() == text.as_bytes());
+    for (words, text) in &rows {
+        assert!(rt; comes_to(&rt, *words, b"", 2, "", *text), "{words:?}");
     }
-    Ok(())
 }
