@@ -4,7 +4,7 @@ ghost use Rattle.claxon.specs.ShownHead.{HasBitDepth};
 
 use crate::answers::AnswerText;
 use crate::replay::Case;
-use crate::streams::add_calls_that_disagree;
+use crate::streams::{PIECES, add_calls_that_disagree};
 use claxon::Block;
 use claxon::frame::{FrameReader, FrameResult};
 use claxon::metadata::StreamInfo;
@@ -15,9 +15,6 @@ use std::io::Cursor;
 
 // The value and number of the old samples in used buffers.
 const USED_BUFFERS: [(i32, usize); 4] = [(13, 1), (13, 16384), (17, 1), (17, 16384)];
-
-// How many bytes are handed in at once.
-const PIECES: [usize; 3] = [1, 7, 1 << 20];
 
 // More bytes than a line has.
 const MAX_BYTES: usize = 1 << 30;

@@ -4,6 +4,7 @@
 mod answers;
 mod blocks;
 mod frames;
+mod heads;
 mod replay;
 mod samples;
 mod streams;

@@ -1,6 +1,7 @@
 //! Streams: their heads, samples and blocks, and whether the other calls agree.
 use crate::answers::AnswerText;
 use crate::blocks::add_streaminfo;
+use crate::heads::shown_in_pieces;
 use crate::replay::Case;
 use crate::samples::gather;
 use claxon::input::BufferedReader;
@@ -10,6 +11,9 @@ use claxon_command_line::result_text::ResultText;
 use claxon_write::{Output, run, write_samples};
 use std::alloc::Global;
 use std::io::{Cursor, Read};
+
+// How many bytes are handed in at once.
+pub const PIECES: [usize; 3] = [1, 7, 1 << 20];
 
 type Opened<'a> = Result<FlacReader<Cursor<&'a [u8]>>>;
 
@@ -130,12 +134,17 @@ fn add_block(block: Block, most: usize, answer: &mut ResultText) {
     add_first(&block.into_buffer(), most, answer);
 }
 
-// With each choice of options a reader has the head that `read_head` returns, and without options the default one.
+// With each choice of options a reader has the head that `read_head` returns, and that is answered where the bytes are handed in in
+// pieces; and without options the default one.
 fn add_other_heads(alloc: Global, bytes: &[u8], answer: &mut ResultText) {
     for number in 0..4 {
         let one = shown(alloc, bytes, options_of(number));
         let alone = shown_alone(alloc, bytes, options_of(number));
         answer.difference(&one, &alone, "; read_head shows otherwise: ");
+        for size in PIECES {
+            let pieces = shown_in_pieces(alloc, bytes, options_of(number), size);
+            answer.difference(&one, &pieces, "; in pieces: ");
+        }
     }
     let one = shown(alloc, bytes, options_of(2));
     let mut other = ResultText::new(alloc);
