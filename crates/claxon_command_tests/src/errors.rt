@@ -1,5 +1,6 @@
 //! Errors and values as `Display` and `Debug` print them.
 use claxon::{Error, FlacReader, FlacReaderOptions};
+use claxon_command_line::messages::{Part, error_text};
 use claxon_testing::answers::two_frames;
 use claxon_wav as wav;
 use std::alloc::{AllocError, Global};
@@ -58,6 +59,23 @@ fn of_the_converter(rt: HostRuntime) -> Result<(), Fail> {
     for (error, want) in &WAV_ERRORS {
         assert!(rt; says(rt.alloc(), error, *want)?, "{want}");
     }
+    Ok(())
+}
+
+// Whether that is what is said of an input whose read fails in this way.
+fn says_of_read(alloc: Global, kind: ErrorKind) -> Result<bool, AllocError> {
+    let want = format!(in alloc; "{}", io::Error::from(kind))?;
+    let head = error_text(alloc, Part::Head, &Error::IoError(io::Error::from(kind)))?;
+    let frame = error_text(alloc, Part::Frame, &Error::IoError(io::Error::from(kind)))?;
+    Ok(head.as_str() == want.as_str() && frame.as_str() == want.as_str())
+}
+
+// A failed read isn't called an end.
+#[test]
+fn of_failed_reads(rt: HostRuntime) -> Result<(), Fail> {
+    assert!(rt; says_of_read(rt.alloc(), ErrorKind::Interrupted)?);
+    assert!(rt; says_of_read(rt.alloc(), ErrorKind::TimedOut)?);
+    assert!(rt; says_of_read(rt.alloc(), ErrorKind::InvalidData)?);
     Ok(())
 }
 
