@@ -8,8 +8,8 @@ mod event;
 mod find_laws;
 mod finder;
 mod frames;
-mod header;
 mod head;
+mod header;
 mod laws;
 
 pub use event::{Event, FindEvent, NeededBytes, StreamFault};
