@@ -23,6 +23,16 @@ from tests.archives import DASK, GO_ON, LOG, PYTHON, RIGHT, ROWS, WRONG, Archive
 from tests.archives import OnCluster, can_mount, has_modules
 
 
+class Interrupting:
+    """Ctrl-C comes while it is removed."""
+
+    def __del__(self) -> None:
+        os.kill(os.getpid(), signal.SIGINT)
+        # A signal is handled between two steps.
+        for _ in range(1000):
+            pass
+
+
 class Mortal(Engine):
     """Two workers. One that has a file of poison dies, with all batches that it has, and another
     one takes its place."""
@@ -115,6 +125,22 @@ class Given(unittest.TestCase):
 
 class Deaths(Archive):
     """Batches whose workers die."""
+
+    def test_dropped_interrupt(self) -> None:
+        """An interrupt in a `__del__`, which Python drops, stops the run all the same."""
+        self.write("1.flac", RIGHT)
+        results = Results(str(self.results), is_new=True)
+        wanted = Wanted([os.fsencode(self.files)], 1, None, None, False)
+        with mock.patch.object(sys, "unraisablehook") as dropped:
+            with run.remembered_interrupts() as interrupted:
+                Interrupting()
+                found = run.Verification(
+                    wanted, results, Progress(), lambda: Mortal(True), interrupted
+                )
+                self.assertRaises(KeyboardInterrupt, found.run, wanted.folders)
+        results.close()
+        self.assertEqual(dropped.call_count, 1)
+        self.assertIs(signal.getsignal(signal.SIGINT), signal.default_int_handler)
 
     def check_poison(self, is_told: bool, why: str, most: int) -> None:
         """Of ten batches of ten files the two files of poison aren't read. At most so many workers

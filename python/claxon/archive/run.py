@@ -1,10 +1,13 @@
 """A run: files are found, verified in batches, and their verdicts kept."""
 import os
 import queue
+import signal
+import threading
 import time
 from collections import Counter, deque
-from contextlib import ExitStack, suppress
-from typing import Any, Callable, Deque, Dict, FrozenSet, List, NamedTuple, Optional, Tuple
+from contextlib import ExitStack, contextmanager, suppress
+from typing import Any, Callable, Deque, Dict, FrozenSet, Iterator, List, NamedTuple, Optional
+from typing import Tuple
 
 from .._program import installed_program
 from .batch import Attempt, Row, ToShow, find_program, unread_row, version_of, why_unable
@@ -114,7 +117,29 @@ def run(wanted: Wanted, results: Results, progress: Progress) -> None:
             opened = open_engine(wanted.jobs, wanted.scheduler, beside, to_show)
             return stack.enter_context(opened)
 
-        Verification(wanted, results, progress, start).run(folders)
+        with remembered_interrupts() as interrupted:
+            Verification(wanted, results, progress, start, interrupted).run(folders)
+
+
+@contextmanager
+def remembered_interrupts() -> Iterator[threading.Event]:
+    """Ctrl-C raises KeyboardInterrupt, and is remembered: Python drops what is raised in a
+    `__del__`, as that of Dask's futures."""
+    interrupted = threading.Event()
+
+    def interrupt(number: int, frame: Any) -> None:
+        interrupted.set()
+        raise KeyboardInterrupt
+
+    is_main = threading.current_thread() is threading.main_thread()
+    if not is_main or signal.getsignal(signal.SIGINT) is not signal.default_int_handler:
+        yield interrupted
+        return
+    signal.signal(signal.SIGINT, interrupt)
+    try:
+        yield interrupted
+    finally:
+        signal.signal(signal.SIGINT, signal.default_int_handler)
 
 
 class Verification:
@@ -122,13 +147,19 @@ class Verification:
     are found."""
 
     def __init__(
-        self, wanted: Wanted, results: Results, progress: Progress, start: Callable[[], Engine]
+        self,
+        wanted: Wanted,
+        results: Results,
+        progress: Progress,
+        start: Callable[[], Engine],
+        interrupted: Optional[threading.Event] = None,
     ) -> None:
         """`start` opens the engine, when the first file is due."""
         self._wanted = wanted
         self._results = results
         self._progress = progress
         self._start = start
+        self._interrupted = interrupted or threading.Event()
         self._engine: Optional[Engine] = None
         # Parts that were found, None at their end, and futures that are done.
         self._events: "queue.SimpleQueue[Any]" = queue.SimpleQueue()
@@ -156,6 +187,8 @@ class Verification:
         self._finder.start()
         try:
             while self._due is None or self._is_any_left():
+                if self._interrupted.is_set():
+                    raise KeyboardInterrupt
                 self._take_events()
                 while self._submit_next():
                     pass
