@@ -1,6 +1,6 @@
 //! Command lines of `claxon`: its commands, its help, and what asks for none.
-use claxon_commands::program::VERSION;
 use claxon_commands::{PROGRAM, command};
+use claxon_program::VERSION;
 use claxon_testing::answers::{FRAME, head, joined};
 use claxon_testing::command_lines::{Outcome, is_outcome, owned};
 use std::test::Fail;

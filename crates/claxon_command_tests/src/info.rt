@@ -1,6 +1,6 @@
 //! Command lines of `claxon info`.
-use claxon_commands::info::command;
-use claxon_commands::program::VERSION;
+use claxon_inspect::info::command;
+use claxon_program::VERSION;
 use claxon_testing::answers::{FRAME, head, joined};
 use claxon_testing::command_lines::{Outcome, is_outcome, owned};
 use claxon_testing::doubles::sinks::Sink;

@@ -1,5 +1,5 @@
 //! Command lines of `claxon trace`.
-use claxon_commands::trace::command;
+use claxon_inspect::trace::command;
 use claxon_testing::answers::{FRAME, head, joined};
 use claxon_testing::command_lines::owned;
 use claxon_testing::doubles::sinks::Sink;

@@ -1,4 +1,2 @@
-pub mod Program
-pub mod Facts
 pub mod VerifyOptions
 pub mod WavStatus

@@ -1,18 +1,14 @@
 //! The program `claxon`: its commands, and which of them the arguments ask for.
 #![tactic(auto)]
 
-mod facts;
-pub mod info;
-pub mod program;
-pub mod trace;
 pub mod verify;
 pub mod wav;
 
-use crate::program::Program;
 use claxon_command_line::arguments::{Argument, Arguments, Notice};
 use claxon_command_line::names::not_utf8_name;
 use claxon_command_line::status;
-pub use facts::write_facts;
+use claxon_inspect::{info, trace};
+use claxon_program::Program;
 use std::alloc::{AllocError, Global};
 use std::io::{Read, Write};
 use std::rt::Files;

@@ -1,5 +1,4 @@
 //! The command `verify`: whether FLAC files are right.
-use crate::program::Program;
 use claxon::Error;
 use claxon::input::BufferedReader;
 use claxon_command_line::arguments::Operands;
@@ -10,6 +9,7 @@ use claxon_command_line::input::{Input, STANDARD, open_input};
 use claxon_command_line::messages::{Part, print_error, shown_name};
 use claxon_command_line::names::{escaped_bytes, not_utf8_name, read_name};
 use claxon_command_line::progress::{Position, Progress, file_label};
+use claxon_program::Program;
 use claxon_verdict::container::container;
 use claxon_verdict::print::{
     PrintOptions, print_failure, print_not_read, print_report, print_summary, print_unread,

@@ -4,7 +4,6 @@ ghost use Rattle.claxon.specs.FlacReader.{flac_metadata_only};
 ghost use Rattle.claxon_commands.specs.WavStatus.{status_after};
 ghost use Rattle.claxon_wav.specs.Conversion.{ConversionIsSound};
 
-use crate::program::Program;
 use claxon::FlacReader;
 use claxon::metadata::StreamInfo;
 use claxon_blocks::md5_verdict::Md5Verdict;
@@ -14,6 +13,7 @@ use claxon_command_line::messages::{Part, print_error, print_message};
 use claxon_command_line::names::not_utf8_name;
 use claxon_command_line::progress::Progress;
 use claxon_command_line::text::count_text;
+use claxon_program::Program;
 use claxon_verdict::text::frame_text;
 use claxon_wav::{Conversion, Error, Plan, Result, write_file, write_stream};
 use std::alloc::{AllocError, Global};

@@ -1,2 +1,0 @@
--- A text that is printed is the one that was asked for.
-mod Printing

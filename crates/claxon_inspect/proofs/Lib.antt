@@ -1,0 +1,2 @@
+-- Text that was put, and the flush after it failed.
+mod Flushing
