@@ -10,6 +10,10 @@ pub mod PlaceCounts
 pub mod Walking
 -- A whole stream: its head, and what was found after it.
 pub mod Verified
+-- Faults for which a block is passed over are within its content.
+pub mod FaultLengths
+-- A head of which blocks may be passed over, and its reader.
+pub mod FoundHeads
 -- The head of a stream of which blocks may be passed over, in the steps of the code.
 pub mod StreamHeads
 -- A head of which nothing is passed over is one of the format, and the other way round.
