@@ -42,6 +42,7 @@ use claxon_blocks::frames::read_frame;
 use claxon_blocks::md5_verdict::{Md5Verdict, computed_md5, judge_md5};
 use claxon_command_line::progress::Progress;
 use claxon_md5::Md5;
+pub use head::found_head_reads;
 use head::read_head;
 use std::alloc::Allocator;
 use std::io::Write;
