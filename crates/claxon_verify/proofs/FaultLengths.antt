@@ -1,5 +1,5 @@
 -- Faults for which a block is passed over are within its content.
-use Rattle.std.proofs.Common.{◌≡◌, ℕ, zero, suc, ◌+◌, ◌-◌, ◌/◌, ◌≤◌, Bool, true, false, cond, not, eqb, ltb, leb, List, [], ◌∷◌, ◌++◌, length, Option, None, Some, refl, sym, ap, ◌∙◌, arith, length-append, inl, inr}
+use Rattle.std.proofs.Common.{◌≡◌, ℕ, zero, suc, ◌+◌, ◌-◌, ◌/◌, ◌≤◌, Bool, true, false, cond, not, eqb, ltb, leb, List, [], ◌∷◌, length, None, Some, refl, ap, ◌∙◌, arith, length-append, inl, inr}
 use Rattle.std.proofs.lemmas.Bool.{ltb-false, eqb-true}
 use Rattle.claxon_format.specs.Codes.{CheckedFault, Is, Mapped, MeetsOr, Never, ThenFault}
 use Rattle.claxon_format.specs.Comments.{CommentFault, Count, CountFault, EntriesEndFault, EntriesFault, Entry, EntryCode, EntryFault, EntryOrEmpty, EntryOrEmptyFault, TextLength, TextLengthFault, Vendor, VendorFault, has_name, has_separator, not_utf8}
@@ -7,7 +7,7 @@ use Rattle.claxon_format.specs.Fault.{ApplicationLarge, ApplicationShort, BlockS
 use Rattle.claxon_format.specs.Metadata.{Bytes, Little, max_content_bytes}
 use Rattle.claxon_format.specs.MetadataBlocks.{ApplicationFault, BodyFault}
 use Rattle.claxon_format.specs.Bits.{Bits}
-use Rattle.claxon_format.specs.Streaminfo.{Streaminfo, StreaminfoBitsFault, StreaminfoFault, block_sizes_inconsistent, block_small, frame_sizes_inconsistent, rate_invalid}
+use Rattle.claxon_format.specs.Streaminfo.{StreaminfoBitsFault, StreaminfoFault, block_sizes_inconsistent, block_small, frame_sizes_inconsistent, rate_invalid}
 use Rattle.claxon_format.proofs.Metadata.{little_length}
 use Rattle.claxon_verify.specs.StreamHead.{unsupported_by}
 use Rattle.claxon_verify.specs.declared.report.UnsupportedBlock.{UnsupportedBlock}

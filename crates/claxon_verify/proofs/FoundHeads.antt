@@ -1,23 +1,21 @@
 -- A head of which blocks may be passed over, and its reader.
-use Rattle.std.proofs.Common.{◌≡◌, ℕ, zero, suc, ◌+◌, ◌<◌, ◌≤◌, Bool, true, false, cond, List, [], ◌∷◌, ◌++◌, length, Option, None, Some, refl, sym, ap, subst, ◌∙◌, append_assoc, arith, length-append, inl, inr}
+use Rattle.std.proofs.Common.{◌≡◌, ℕ, zero, suc, ◌<◌, ◌≤◌, Bool, true, false, cond, List, [], ◌∷◌, ◌++◌, length, Option, None, Some, refl, sym, ap, subst, ◌∙◌, append_assoc, arith}
 use Rattle.std.specs.Prelude.{Ok, Err, ◌||◌}
 use Rattle.std.specs.List.{list_any}
-use Rattle.std.proofs.lemmas.List.{append-nil}
-use Rattle.claxon_format.specs.Codes.{Each, Is, Mapped, ThenFault, Never}
+use Rattle.claxon_format.specs.Codes.{Each, Is, Mapped, Never}
 use Rattle.claxon_format.specs.Fault.{Fault, SecondStreaminfo, StreaminfoMissing, TooManyBlocks}
 use Rattle.claxon_format.specs.Heads.{Marker, stream_marker}
 use Rattle.claxon_format.specs.Metadata.{Big, BlockHeaderCode}
-use Rattle.claxon_format.specs.MetadataBlocks.{Content, Info, Padding, Application, Comments, Reserved, Body, BodyFault}
-use Rattle.claxon_format.specs.Streaminfo.{Streaminfo}
+use Rattle.claxon_format.specs.MetadataBlocks.{Content, Info, Padding, Application, Comments, Reserved}
 use Rattle.claxon_format.specs.read.Bytes.{bytes_at}
 use Rattle.claxon_format.specs.read.MetadataBlocks.{body_at}
-use Rattle.claxon_format.specs.read.Reading.{Reading, Reads, Done, Faulty, Incomplete, bind, done}
+use Rattle.claxon_format.specs.read.Reading.{Reading, Reads, Done, Faulty, Incomplete, bind}
 use Rattle.claxon_format.proofs.Comments.{or_false}
 use Rattle.claxon_format.proofs.Heads.{Reads-marker}
 use Rattle.claxon_format.proofs.Laws.{Then, Reads-cond, Reads-done, Reads-fails, Reads-map, Reads-same, Reads-test, Reads-then}
 use Rattle.claxon_format.proofs.Metadata.{Reads-block_header, Reads-bytes}
 use Rattle.claxon_format.proofs.MetadataBlocks.{Reads-body}
-use Rattle.claxon_verify.specs.StreamHead.{EndAtLast, FirstFoundFault, FoundBlock, FoundBlockCode, FoundBlockFault, FoundBlocksFault, FoundContent, FoundContentCode, FoundContentFault, FoundHead, FoundHeadCode, FoundHeadFault, IsFoundHead, PassedOverBytes, after_first_found, are_found_comments, first_found, first_unsupported, found_block_at, found_blocks_at, found_content, found_content_at, found_head_at, is_found_info, none_seen, passed_over, seen_after, unsupported_by, unsupported_in}
+use Rattle.claxon_verify.specs.StreamHead.{EndAtLast, FirstFoundFault, FoundBlock, FoundBlockCode, FoundBlockFault, FoundBlocksFault, FoundContent, FoundContentCode, FoundContentFault, FoundHead, FoundHeadCode, FoundHeadFault, IsFoundHead, after_first_found, are_found_comments, first_found, first_unsupported, found_block_at, found_blocks_at, found_content, found_content_at, found_head_at, is_found_info, none_seen, passed_over, seen_after, unsupported_by, unsupported_in}
 use Rattle.claxon_verify.specs.declared.head.Seen.{Seen}
 use Rattle.claxon_verify.specs.declared.report.UnsupportedBlock.{UnsupportedBlock}
 use Rattle.claxon_verify.proofs.FaultLengths.{body_within}
