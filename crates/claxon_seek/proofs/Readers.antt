@@ -79,6 +79,10 @@ refused_other P (Ok x) h = tt
 refused_other P (Err e) (inl io) = inr (inl io)
 refused_other P (Err e) (inr memory) = inl memory
 
+-- an attempt goes on from bytes that were read on before
+pub then_attempt : (stream : StreamFormat) (old here : List ℕ) (r : FrameAnswer) (new : List ℕ) → ReadsOn old here → NextGives stream here r new → NextGives stream old r new
+then_attempt stream old here r new on g = record { bytes = g.bytes; reads_on = then_more on g.reads_on; gives = g.gives }
+
 -- more bytes were refused
 pub refused : (stream : StreamFormat) (old here : List ℕ) (e : Error) → ReadsOn old here → NoFrame stream here → IsIoOrMemory e → NextGives stream old (Err e) here
 refused stream old here e on none is = record { bytes = here; reads_on = on; gives = inr (record { no_frame = none; err = is; rest = refl }) }
