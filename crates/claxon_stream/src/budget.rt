@@ -1,5 +1,5 @@
 //! How much work may lead to no frame.
-ghost use Rattle.std.specs.Prelude.{◌≡◌, ◌↔◌, ◌+◌, ◌-◌, ◌≤◌, IsTrue, max};
+ghost use Rattle.std.specs.Prelude.{◌≡◌, ◌↔◌, ◌-◌, ◌≤◌, IsTrue, max};
 
 // How much work that led to no frame, in bytes and samples, is allowed: of a decoder before it makes no tries where the CRC-16 is 0, of
 // a search before it passes headers over.
@@ -12,6 +12,7 @@ const MAX_WASTED: u64 = 1 << 26;
 const MADE_GOOD_BY_A_BYTE: u64 = 32;
 
 // The work that led to no frame.
+#[repr(C)]
 #[derive(Clone, Copy, Debug)]
 pub(crate) struct Budget {
     // What wasn't made good yet.

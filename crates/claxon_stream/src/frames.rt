@@ -36,6 +36,9 @@ use claxon::{Error, Result};
 ///     }
 /// }
 /// ```
+///
+/// A copy goes on by itself. In memory a decoder is laid out as the same struct in C.
+#[repr(C)]
 #[derive(Clone, Copy, Debug)]
 pub struct FrameDecoder {
     position: u64,
@@ -79,8 +82,8 @@ impl FrameDecoder {
         }
     }
 
-    // A decoder of the frames from another position on, with the same budget.
-    pub(crate) fn from_position(&self, at: u64) -> FrameDecoder
+    /// A decoder of the frames from another position on, as after damage. What was charged is kept, so that the time stays linear.
+    pub fn from_position(&self, at: u64) -> FrameDecoder
         ensures { IsFromPosition self.now at result }
     {
         FrameDecoder {

@@ -17,7 +17,7 @@ pub use find_laws::{find_cuts_dont_matter, find_is_first, finds_are_find_frames,
 pub use finder::FrameFinder;
 pub use frames::FrameDecoder;
 pub use head::{
-    HeadDecoder, HeadEvent, MetadataBlockHeader, head_answers_are_complete,
+    HeadDecoder, HeadEvent, KeptHead, MetadataBlockHeader, head_answers_are_complete,
     head_answers_are_read_heads, head_answers_are_reading, head_cuts_dont_matter, one_head_answer,
 };
 pub use laws::{answers_are_decoders, cuts_dont_matter, frames_end_at_zero, one_answer};
