@@ -523,17 +523,13 @@ CLAXON_STATIC uint32_t claxon_stream_hold_samples(struct claxon_stream *stream, 
 /* Decodes the frame at `position` of the bytes that are held. With CLAXON_OK, `length` is its length in bytes. */
 CLAXON_STATIC uint32_t claxon_stream_try(struct claxon_stream *stream, int planar, size_t *length, struct claxon_block *block) {
     int is_full = stream->held >= CLAXON_MAX_FRAME_BYTES;
-    struct claxon_frames frames = stream->frames;
     uint32_t status = (planar ? claxon_frames_next_planar : claxon_frames_next)(
-        &frames, claxon_stream_bytes(stream), is_full ? CLAXON_MAX_FRAME_BYTES : stream->held, stream->position,
+        &stream->frames, claxon_stream_bytes(stream), is_full ? CLAXON_MAX_FRAME_BYTES : stream->held, stream->position,
         stream->has_ended || is_full, &stream->info, stream->samples, stream->samples_size, block, stream->error,
         sizeof stream->error);
-    *length = (size_t)(frames.position - stream->position);
+    *length = (size_t)(stream->frames.position - stream->position);
     if (status == CLAXON_INPUT_ENDS && is_full) {
         return claxon_stream_fault(stream, CLAXON_FORMAT_ERROR, "frame longer than 16777215 bytes");
-    }
-    if (status == CLAXON_NEED_MORE) {
-        stream->frames = frames;
     }
     return status;
 }
