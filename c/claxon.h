@@ -121,11 +121,7 @@ struct claxon_head {
 };
 
 /* The parts of a head. */
-enum claxon_part {
-    CLAXON_MARKER = 0,
-    CLAXON_METADATA_HEADER = 1,
-    CLAXON_METADATA_CONTENT = 2
-};
+enum claxon_part { CLAXON_MARKER = 0, CLAXON_METADATA_HEADER = 1, CLAXON_METADATA_CONTENT = 2 };
 
 /* The frames of a stream whose bytes are handed in. It may be copied. */
 struct claxon_frames {
@@ -323,11 +319,11 @@ void claxon_frames_start(struct claxon_frames *frames, uint64_t position);
 /* Goes on from another position, as after damage. Work that led to no frame stays counted, so that the time is linear. */
 void claxon_frames_go_on(struct claxon_frames *frames, uint64_t position);
 
-/* Decodes the next frame. With CLAXON_OK, `block` is filled, channels * duration samples are written, interleaved, and `position`
- * is moved after the frame. NEED_MORE: no whole frame is there; or very many tries were in vain, to which no stream of an encoder
- * leads. BUFFER_TOO_SMALL: the samples of the frame don't fit; `block` is filled, and nothing else is changed. FORMAT_ERROR,
- * UNSUPPORTED: no frame begins there; `position` is moved after what is wrong. INPUT_ENDS: the stream ends within the frame.
- * NO_MORE: it ends after the last frame, or fewer than two bytes later. `position` is at its end then. FORMAT_ERROR,
+/* Decodes the next frame. With CLAXON_OK, `block` is filled, channels * duration samples are written, interleaved, and
+ * `position` is moved after the frame. NEED_MORE: no whole frame is there; or very many tries were in vain, to which no stream
+ * of an encoder leads. BUFFER_TOO_SMALL: the samples of the frame don't fit; `block` is filled, and nothing else is changed.
+ * FORMAT_ERROR, UNSUPPORTED: no frame begins there; `position` is moved after what is wrong. INPUT_ENDS: the stream ends within
+ * the frame. NO_MORE: it ends after the last frame, or fewer than two bytes later. `position` is at its end then. FORMAT_ERROR,
  * UNSUPPORTED, INPUT_ENDS, OUT_OF_MEMORY: `error` gets a text. */
 uint32_t claxon_frames_next(struct claxon_frames *frames, const uint8_t *bytes, size_t length, uint64_t at, uint32_t is_end,
                             const struct claxon_info *info, int32_t *samples, size_t capacity, struct claxon_block *block,

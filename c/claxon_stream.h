@@ -84,9 +84,9 @@ struct claxon_stream {
     uint8_t *window;        /* which has the bytes from `position` on */
     size_t window_size, start, held;
     size_t samples_size;
-    size_t ready;     /* the length of the frame at `position`, which is decoded already, or 0 */
-    uint64_t wasted;  /* work of a seek that led to no frame */
-    uint64_t content; /* the position of what is read next of the content of a metadata block, */
+    size_t ready;        /* the length of the frame at `position`, which is decoded already, or 0 */
+    uint64_t wasted;     /* work of a seek that led to no frame */
+    uint64_t content;    /* the position of what is read next of the content of a metadata block, */
     size_t content_left; /*     how much of it is left, */
     const uint8_t *kept; /*     and where it is, if it is kept */
     uint8_t *kept_comments;
@@ -393,14 +393,15 @@ CLAXON_STATIC size_t claxon_stream_content(struct claxon_stream *stream, uint8_t
             stream->kept += count;
         } else {
             size_t at = (size_t)(stream->content - stream->position);
+            uint64_t needed;
             if (claxon_stream_hold(stream, at + 1) != CLAXON_OK || stream->held <= at) {
                 break;
             }
             count = count < stream->held - at ? count : stream->held - at;
             memcpy(bytes + done, claxon_stream_bytes(stream) + at, count);
             stream->content += count;
-            at = (size_t)((stream->content < stream->head.position ? stream->content : stream->head.position) - stream->position);
-            claxon_stream_pass(stream, at);
+            needed = stream->content < stream->head.position ? stream->content : stream->head.position;
+            claxon_stream_pass(stream, needed - stream->position);
         }
         stream->content_left -= count;
         done += count;
@@ -566,8 +567,7 @@ CLAXON_STATIC uint32_t claxon_stream_frame_header(struct claxon_stream *stream, 
     int32_t samples;
     char error[1];
     size_t at = 0;
-    return claxon_next_block(stream->window + stream->start, stream->held, &at, &stream->info, &samples, 0, block,
-                             error, 0);
+    return claxon_next_block(stream->window + stream->start, stream->held, &at, &stream->info, &samples, 0, block, error, 0);
 }
 
 /* Notes that no frame begins at the start of the window, after so many bytes were read. */

@@ -74,8 +74,8 @@ static uint32_t next_frame(struct pieces *pieces, struct claxon_frames *frames, 
     return status;
 }
 
-static uint32_t next_found(struct pieces *pieces, struct claxon_search *search, const struct claxon_info *info,
-                           uint64_t *found, struct claxon_block *block, const char *name) {
+static uint32_t next_found(struct pieces *pieces, struct claxon_search *search, const struct claxon_info *info, uint64_t *found,
+                           struct claxon_block *block, const char *name) {
     uint32_t status;
     do {
         status = claxon_search_next(search, HELD(pieces), info, found, block);
@@ -166,8 +166,7 @@ static void test_damaged(const char *name, const uint8_t *bytes, size_t length, 
         damage(damaged, pieces.length);
         uint32_t wanted = claxon_open(damaged, pieces.length, &other, text, sizeof text);
         uint32_t status = read_head(&pieces, &head, &info, error, sizeof error, name);
-        expect(status == (wanted == CLAXON_OK ? (uint32_t)CLAXON_NO_MORE : wanted) && strcmp(error, text) == 0, name,
-               "a head");
+        expect(status == (wanted == CLAXON_OK ? (uint32_t)CLAXON_NO_MORE : wanted) && strcmp(error, text) == 0, name, "a head");
         expect(wanted != CLAXON_OK || memcmp(&info, &other, sizeof info) == 0, name, "the info of a head");
         if (wanted == CLAXON_OK) {
             expect(head.position == info.first_frame, name, "the position of the first frame");
@@ -181,8 +180,8 @@ static void test_damaged(const char *name, const uint8_t *bytes, size_t length, 
 
 /* A frame of 16 samples of 16 bits, a head of a streaminfo and a picture, and comments without tags. */
 static const uint8_t frame[] = {0xff, 0xf8, 0x69, 0x08, 0x00, 0x0f, 0x30, 0x00, 0x12, 0x34, 0xaa, 0x3b};
-static const uint8_t head_bytes[46] = {'f', 'L', 'a', 'C', 0,    0, 0, 34, 0, 16, 0,  16,   0,    0,   1, 0,
-                                       1,   0,   0x0a, 0xc4, 0x40, 0xf0, 0, 0,  0, 4,  [42] = 6, 0xff, 0xff, 0xff};
+static const uint8_t head_bytes[46] = {'f', 'L', 'a', 'C',  0,    0,    0,    34, 0, 16, 0, 16,       0,    0,    1,
+                                       0,   1,   0,   0x0a, 0xc4, 0x40, 0xf0, 0,  0, 0,  4, [42] = 6, 0xff, 0xff, 0xff};
 static const uint8_t comments[] = {0x84, 0, 0, 15, 0, 0, 0, 0, 1, 0, 0, 0, 3, 0, 0, 0, 'X', '=', 'Y'};
 
 static void test_limits(void) {
@@ -198,7 +197,8 @@ static void test_limits(void) {
     claxon_frames_start(&frames, end - length - 1);
     before = frames;
     expect(claxon_frames_next(&frames, frame, length, end - length, 1, &none, samples, 16, &block, error, sizeof error) ==
-                   CLAXON_UNSUPPORTED && strcmp(error, "positions from 2^63 on are not supported") == 0,
+                   CLAXON_UNSUPPORTED &&
+               strcmp(error, "positions from 2^63 on are not supported") == 0,
            "a position", "of 2^63");
     expect(memcmp(&before, &frames, sizeof frames) == 0 && block.channels == 0, "a position", "what is changed by 2^63");
     claxon_search_start(&search, end - length - 1);
@@ -208,7 +208,8 @@ static void test_limits(void) {
                found == end - length - 1 && search.position == end - 1,
            "a position", "the last one, in a search");
     expect(claxon_frames_next(&frames, frame, length, end - length - 1, 1, &none, samples, 15, &block, error, 0) ==
-                   CLAXON_BUFFER_TOO_SMALL && block.duration == 16 && memcmp(&before, &frames, sizeof frames) == 0,
+                   CLAXON_BUFFER_TOO_SMALL &&
+               block.duration == 16 && memcmp(&before, &frames, sizeof frames) == 0,
            "a frame", "that doesn't fit");
     expect(claxon_frames_next(&frames, frame, length, end - length, 1, &none, samples, 16, &block, error, 0) ==
                CLAXON_UNSUPPORTED,
@@ -278,7 +279,8 @@ static void test_contents(void) {
                strcmp(error, "str") == 0 && head.begin == 7,
            "a head", "that is none");
     expect(claxon_head_next(&head, comments, 4, (UINT64_C(1) << 63) - 4, 1, &info, &metadata, error, sizeof error) ==
-                   CLAXON_UNSUPPORTED && strcmp(error, "positions from 2^63 on are not supported") == 0,
+                   CLAXON_UNSUPPORTED &&
+               strcmp(error, "positions from 2^63 on are not supported") == 0,
            "a head", "at 2^63");
 }
 
@@ -296,7 +298,8 @@ static void test_memory(void) {
     refused_from = 1;
     requests = 0;
     expect(claxon_frames_next(&frames, frame, sizeof frame, 0, 0, &none, samples, 16, &block, error, sizeof error) ==
-                   CLAXON_OUT_OF_MEMORY && strcmp(error, "out of memory") == 0 && frames.position == 0,
+                   CLAXON_OUT_OF_MEMORY &&
+               strcmp(error, "out of memory") == 0 && frames.position == 0,
            "a frame", "memory that is refused");
     expect(claxon_search_next(&search, frame, sizeof frame, 0, 0, &none, &found, &block) == CLAXON_OUT_OF_MEMORY &&
                search.position == 0,
