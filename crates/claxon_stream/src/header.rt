@@ -10,20 +10,20 @@ use claxon::frame::BlockInfo;
 use claxon::metadata::StreamInfo;
 use claxon_seek::header_at_start;
 
-// What is known of the header that bytes begin with.
+/// What is known of the header that bytes begin with.
 #[derive(Clone, Copy)]
-pub(crate) enum HeaderThere {
-    // It has the stream's number of channels and bit depth, where these are known, and says this of its block.
+pub enum HeaderThere {
+    /// It has the stream's number of channels and bit depth, where these are known, and says this of its block.
     Wanted(BlockInfo),
-    // There is none of the stream, whatever follows.
+    /// There is none of the stream, whatever follows.
     NotWanted,
-    // The bytes end within it.
+    /// The bytes end within it.
     CutHeader,
 }
 
-// The header that the bytes begin with. The streaminfo is lent, as it is asked for at each position.
+/// The header that the bytes begin with. The streaminfo is lent, as it is asked for at each position.
 #[inline(always)]
-pub(crate) fn header_there(bytes: &[u8], known: &Option<StreamInfo>) -> HeaderThere
+pub fn header_there(bytes: &[u8], known: &Option<StreamInfo>) -> HeaderThere
     requires { IfSome known.now (λ info. HasBitDepth info) }
     ensures is_there { HeaderIsThere known.now bytes.now result }
 {
