@@ -2,5 +2,13 @@
 #![tactic(auto)]
 
 mod clock;
+mod event;
+mod laws;
+mod search;
+mod seeker;
+mod sought;
 
 pub use clock::Clock;
+pub use event::{SeekEvent, SoughtFrame};
+pub use laws::{not_found_is_none, seeks_agree};
+pub use seeker::Seeker;
