@@ -1,12 +1,10 @@
 -- The frame to which headers led.
-use Rattle.std.proofs.Common.{◌≡◌, ◌⊎◌, inl, inr, ℕ, ◌+◌, ◌<◌, ◌≤◌, Bool, true, false, List, length, drop, Option, None, Some, refl, sym, ap, subst, ◌∙◌, arith}
-use Rattle.std.specs.Global.{Global}
+use Rattle.std.proofs.Common.{◌≡◌, inl, inr, ℕ, ◌+◌, ◌≤◌, Bool, List, drop, Option, None, refl, sym, ap, subst, ◌∙◌, arith}
 use Rattle.std.specs.Prelude.{Result, Ok, Err}
 use Rattle.claxon.specs.DecodedFrame.{FrameWithHeader, decoded_view}
-use Rattle.claxon.specs.DecodedFrames.{DecodedFrame}
 use Rattle.claxon.specs.Errors.{Error}
 use Rattle.claxon.specs.StreamInfos.{StreamInfo}
-use Rattle.claxon_seek.specs.Find.{WantedFrame, known_format}
+use Rattle.claxon_seek.specs.Find.{known_format}
 use Rattle.claxon_stream.specs.DecodedAtStart.{BeginsWithLength}
 use Rattle.claxon_stream.specs.FrameDecoder.{EventIsOfStream, EventIsSound, decoder_position}
 use Rattle.claxon_stream.specs.Held.{StandsIn}

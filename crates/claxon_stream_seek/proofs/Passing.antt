@@ -1,7 +1,7 @@
 -- What a search passes, byte by byte, and what it answers.
-use Rattle.std.proofs.Common.{◌≡◌, ◌≢◌, inl, inr, ℕ, zero, suc, ◌+◌, ◌-◌, ◌*◌, ◌<◌, ◌≤◌, max, Bool, true, false, List, [], ◌++◌, length, drop, Option, None, Some, refl, sym, ap, subst, ◌∙◌, length-append, arith}
+use Rattle.std.proofs.Common.{◌≡◌, inl, inr, ℕ, suc, ◌+◌, ◌-◌, ◌<◌, ◌≤◌, Bool, true, false, List, length, drop, Option, None, Some, refl, sym, ap, subst, ◌∙◌, length-append, arith}
 use Rattle.std.specs.Global.{Global}
-use Rattle.std.specs.Prelude.{IfSome, Result, Ok, Err, ◌⊎◌}
+use Rattle.std.specs.Prelude.{Result, Ok, Err}
 use Rattle.std.proofs.lemmas.Bool.{cases_lt}
 use Rattle.std.proofs.lemmas.List.{length-drop}
 use Rattle.claxon.specs.BlockInfo.{HeaderOf}
@@ -13,7 +13,6 @@ use Rattle.claxon.specs.Errors.TheVariants.{OutOfMemory}
 use Rattle.claxon.specs.FrameReader.{HeaderOfLargerBlock}
 use Rattle.claxon.specs.Prefix.{BeginsWith}
 use Rattle.claxon.specs.Promises.{IsOutOfMemory}
-use Rattle.claxon.specs.ShownHead.{HasBitDepth}
 use Rattle.claxon.specs.StreamInfos.{StreamInfo}
 use Rattle.claxon.proofs.BlockInfo.{header_has_two_bytes}
 use Rattle.claxon_seek.specs.Find.{HasFormat, WantedFrame, WantedHeader, known_format}
@@ -31,10 +30,9 @@ use Rattle.claxon_stream.specs.declared.frames.FrameDecoder.{FrameDecoder}
 use Rattle.claxon_stream.proofs.HeldBytes.{held_after, held_before, held_stands}
 use Rattle.claxon_stream.proofs.Searching.{cost_is, header_there}
 use Rattle.claxon_stream.proofs.TriedFrames.{IsVain, frame_there, same_info}
-use Rattle.claxon_stream_seek.specs.Search.{HasPassed, IsAnswered, IsAtByte, IsTriedAt, IsVainAt, NeedsMore, SkipsByte, answer_at, found_at, search_cost}
-use Rattle.claxon_stream_seek.specs.Sought.{HasSample, IsSought, Passes, PassesByte, SeekEventIs, SoughtHeader, start_of}
+use Rattle.claxon_stream_seek.specs.Search.{HasPassed, IsAnswered, IsAtByte, IsTriedAt, IsVainAt, NeedsMore, SkipsByte, found_at, search_cost}
+use Rattle.claxon_stream_seek.specs.Sought.{HasSample, Passes, PassesByte, SoughtHeader}
 use Rattle.claxon_stream_seek.specs.declared.event.SeekEvent.{SeekEvent}
-use Rattle.claxon_stream_seek.specs.declared.event.SeekEvent.TheVariants.{Found, ReadOn}
 use Rattle.claxon_stream_seek.specs.declared.search.ByteSearch.{ByteSearch}
 use Rattle.claxon_stream_seek.specs.declared.sought.Sought.{Sought}
 

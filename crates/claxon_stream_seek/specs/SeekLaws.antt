@@ -1,22 +1,11 @@
 -- The laws of what a seek answers, one statement each.
-use Rattle.std.specs.Prelude.{◌≡◌, ℕ, List, Option, Result, Ok, Err, true, false}
-use Rattle.claxon.specs.BlockInfos.{BlockInfo}
+use Rattle.std.specs.Prelude.{ℕ, List, Option, Result, Ok}
 use Rattle.claxon.specs.Errors.{Error}
 use Rattle.claxon.specs.StreamInfos.{StreamInfo}
 use Rattle.claxon_stream.specs.FindLaws.{IsKnown}
-use Rattle.claxon_stream_seek.specs.Sought.{
-  NoneIsThere,
-  PassesAll,
-  SeekEventIs,
-  SoughtFrame_at,
-}
+use Rattle.claxon_stream_seek.specs.Sought.{NoneIsThere, SeekEventIs}
 use Rattle.claxon_stream_seek.specs.declared.event.SeekEvent.{SeekEvent}
-use Rattle.claxon_stream_seek.specs.declared.event.SeekEvent.TheVariants.{
-  Found,
-  NotFound,
-  OverBudget,
-  ReadOn,
-}
+use Rattle.claxon_stream_seek.specs.declared.event.SeekEvent.TheVariants.{Found, NotFound, OverBudget}
 use Rattle.claxon_stream_seek.specs.declared.sought.Sought.{Sought}
 
 -- `NotFound` says that no frame from the first one on has the sample.

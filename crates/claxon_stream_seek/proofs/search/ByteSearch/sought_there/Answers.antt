@@ -1,4 +1,4 @@
-use Rattle.std.proofs.Common.{◌≡◌, ℕ, List, drop, Option, None, sym, ap, subst, ◌∙◌}
+use Rattle.std.proofs.Common.{drop, None, sym, subst, ◌∙◌}
 use Rattle.std.proofs.lemmas.Bool.{iff_false}
 use Rattle.claxon.specs.BlockInfos.{BlockInfo}
 use Rattle.claxon_seek.proofs.Searches.{same_header}

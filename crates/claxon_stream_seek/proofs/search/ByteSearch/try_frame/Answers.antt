@@ -1,6 +1,6 @@
 use Rattle.std.specs.Prelude.{vec_capacity}
 use Rattle.claxon_stream_seek.specs.Search.{IsTriedAt}
-use Rattle.std.proofs.Common.{◌≡◌, true, false, subst, sym, Bool}
+use Rattle.std.proofs.Common.{true, subst, Bool}
 use Rattle.claxon_stream_seek.proofs.Passing.{answered, over}
 use Rattle.claxon_stream_seek.proofs.search.ByteSearch.try_frame.Goals as goal
 

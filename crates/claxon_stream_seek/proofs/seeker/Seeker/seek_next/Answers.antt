@@ -1,4 +1,4 @@
-use Rattle.std.proofs.Common.{◌≡◌, List, sym, ap, subst, ◌∙◌}
+use Rattle.std.proofs.Common.{sym, ap, subst, ◌∙◌}
 use Rattle.std.specs.Prelude.{Option, Ok}
 use Rattle.claxon_stream_seek.specs.Search.{HasPassed, answer_at}
 use Rattle.claxon_stream_seek.specs.Seeker.{sought_by}

@@ -1,5 +1,4 @@
 use Rattle.std.specs.Prelude.{vec_capacity}
-use Rattle.std.proofs.Common.{◌≡◌, ◌≤◌, arith}
 use Rattle.claxon_stream_seek.proofs.Likely.{likely_of_stream}
 use Rattle.claxon_stream_seek.proofs.seeker.Seeker.try_likely.Goals as goal
 
