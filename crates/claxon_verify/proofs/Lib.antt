@@ -2,10 +2,12 @@
 pub mod FramesAndFaults
 -- The block sizes of a stream.
 pub mod BlockSizes
--- The order of the frames of a stream.
-pub mod FrameOrder
--- The places that were found so far, and how many they are.
-pub mod PlaceCounts
+-- The parts that are found, one after another, and their places.
+pub mod Scanning
+-- A stream has no place exactly where its frames are in order, and no more than they should be.
+pub mod RightPlaces
+-- Places that are kept, one after another.
+pub mod Keeping
 -- Frames and faults that are found, one after another.
 pub mod Walking
 -- A whole stream: its head, and what was found after it.

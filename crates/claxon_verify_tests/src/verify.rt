@@ -25,7 +25,9 @@ pub(crate) enum Wrong {
     SampleRate(u32),
     BlockingStrategy,
     Missing(u64, bool),
-    Repeated(u64, bool),
+    Repeated,
+    OutOfOrder,
+    Beyond,
     WideSample,
 }
 
@@ -37,7 +39,9 @@ fn wrong_of(damage: &Damage) -> Wrong {
         Damage::SampleRate(rate) => Wrong::SampleRate(*rate),
         Damage::BlockingStrategy => Wrong::BlockingStrategy,
         Damage::Missing(gap) => Wrong::Missing(gap.count, gap.is_variable),
-        Damage::Repeated(gap) => Wrong::Repeated(gap.count, gap.is_variable),
+        Damage::Repeated => Wrong::Repeated,
+        Damage::OutOfOrder => Wrong::OutOfOrder,
+        Damage::Beyond => Wrong::Beyond,
         Damage::WideSample => Wrong::WideSample,
     }
 }
@@ -188,7 +192,7 @@ const ORDERS: [(&[&[u8]], Said); 8] = [
         &[&FRAME, &FRAME],
         (
             (2, 2, 0),
-            Some((53, 53, 1, 0, Wrong::Repeated(1, false))),
+            Some((53, 64, 1, 1, Wrong::Repeated)),
             false,
         ),
     ),
@@ -418,7 +422,7 @@ fn shows(alloc: Global, label: Option<&str>, want: &str) -> bool {
     let mut errors: Vec<u8> = Vec::new(alloc);
     let mut progress = Progress::new(&mut errors, label);
     let mut input = Cursor::new(bytes.as_slice());
-    let is_whole = match verify(alloc, &mut input, true, &mut progress) {
+    let is_whole = match verify(alloc, &mut input, true, 999, &mut progress) {
         Ok(report) => report.found.frames == 2,
         Err(_) => false,
     };

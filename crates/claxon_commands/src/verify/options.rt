@@ -32,6 +32,8 @@ pub struct Options {
     pub print: PrintOptions,
     /// A folder stands for the FLAC files below it.
     pub is_recursive: bool,
+    /// How many places of a file are told after the first.
+    pub more_places: usize,
 }
 
 /// What the words ask for. With a list there are no operands, and without one there is one or more.
@@ -48,6 +50,7 @@ pub fn parse<'a>(words: &'a [String]) -> Result<VerifyRequest<'a>, Notice<'a>>
             has_summary: false,
         },
         is_recursive: false,
+        more_places: 999,
     };
     let (mut list, mut count) = (None, 0usize);
     while let Some(argument) = arguments.next() {
@@ -58,12 +61,24 @@ pub fn parse<'a>(words: &'a [String]) -> Result<VerifyRequest<'a>, Notice<'a>>
                 None => return Err(Notice::Usage),
             },
             Argument::Option("--files0-from") => return Err(Notice::Usage),
+            Argument::Option("--places") => match arguments.value() {
+                Some(number) => options.more_places = more_places(number)?,
+                None => return Err(Notice::Usage),
+            },
             Argument::Option(option) => options = with_option(options, option)?,
             Argument::Operand(_) => count = count.saturating_add(1),
         }
     }
     let files = files_of(words, list, count)?;
     Ok(VerifyRequest { files, options })
+}
+
+// How many places are told after the first, where at most so many are: one or more.
+fn more_places<'a>(number: &str) -> Result<usize, Notice<'a>> {
+    match number.parse::<usize>() {
+        Ok(count) if count > 0 => Ok(count - 1),
+        _ => Err(Notice::Usage),
+    }
 }
 
 // The options, with one more.
