@@ -409,7 +409,13 @@ where
     let front = front_of(rt.alloc(), &mut input)?;
     let format = container(front.as_slice());
     let mut input = BufferedReader::new(rt.alloc(), Cursor::new(front).chain(input))?;
-    match verify(rt.alloc(), &mut input, options.computes_md5, options.more_places, progress) {
+    match verify(
+        rt.alloc(),
+        &mut input,
+        options.computes_md5,
+        options.more_places,
+        progress,
+    ) {
         Err(Error::FormatError(_)) if let Some(format) = format => Err(Error::Unsupported(format)),
         answer => answer,
     }

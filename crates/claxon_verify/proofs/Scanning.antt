@@ -217,9 +217,9 @@ at_end_same : (end other samples : ℕ) (s : Scans) → (s.scan.begun ≡ None �
 at_end_same end other samples s same =
     map_append s.places (list_of (ended_place s.scan.ended) ++ list_of (last_place end samples s.scan.due s.scan.begun))
     ∙ ap (λ (z : List Place). map unnamed s.places ++ z) (
-      map_append (list_of (ended_place s.scan.ended)) (list_of (last_place end samples s.scan.due s.scan.begun))
-      ∙ ap (λ (z : List Place). z ++ map unnamed (list_of (last_place end samples s.scan.due s.scan.begun))) (map_list (ended_place s.scan.ended) ∙ ap list_of (sym (idem_place s.scan.ended)))
-      ∙ ap (λ (z : List Place). list_of (unnamed_option (ended_place (unnamed_ended s.scan.ended))) ++ z) (map_list (last_place end samples s.scan.due s.scan.begun) ∙ ap list_of (last_same end other samples s.scan.due s.scan.begun same))
+    map_append (list_of (ended_place s.scan.ended)) (list_of (last_place end samples s.scan.due s.scan.begun))
+    ∙ ap (λ (z : List Place). z ++ map unnamed (list_of (last_place end samples s.scan.due s.scan.begun))) (map_list (ended_place s.scan.ended) ∙ ap list_of (sym (idem_place s.scan.ended)))
+    ∙ ap (λ (z : List Place). list_of (unnamed_option (ended_place (unnamed_ended s.scan.ended))) ++ z) (map_list (last_place end samples s.scan.due s.scan.begun) ∙ ap list_of (last_same end other samples s.scan.due s.scan.begun same))
     )
 
 -- the same parts have the same places, but for the end of the stream

@@ -287,32 +287,32 @@ module _ {A : Type 0} {computes_md5 : Bool} {stream : Option StreamFormat} {info
   -- the end
   pub eof_found : {more : Walk A} (end : ℕ) (c : State ℕ) → count + 1 < 2 ^ 64 → BlockIsRead stream (Ok None) b c → (RemainingIsKnown a → end ≡ (start + length a.remaining) % 2 ^ 64) → EndsWalk end walk more → WalksToEnd computes_md5 stream info start a c more
   eof_found {more = more} end c bound read at_end ends k counts counted =
-        let p = h.is k in
-        let q = part_at k in
-        let scan : scan_parts info (record { scan = begun_scan; places = [] }) (p.found ++ []) ≡ record { scan = more.scan; places = p.places } =
-        ap (scan_parts info (record { scan = begun_scan; places = [] })) (append-nil p.found) ∙ p.scan ∙ ap (λ (z : Scan). record { scan = z; places = p.places }) (sym ends.scan_is) in (
-          record {
-            parts = p.parts;
-            is_cut = false;
-            front = q.0;
-            rest = b.remaining;
-            joined = q.1;
-            parts_are = p.parts_are;
-            ends = read.eof refl (h.known k);
-            fit = fit_now k bound;
-            frames = counted.frames_are ∙ ends.frames_are ∙ p.frames;
-            samples = counted.samples_are ∙ ends.samples_are ∙ p.samples;
-            sizes = counted.sizes_are ∙ ap (λ (s : SizesSoFar). s.changed) ends.sizes_are ∙ changed_of (frames_of p.parts) walk.sizes p.sizes;
-            found = p.found;
-            last = [];
-            found_are = p.found_are;
-            last_is = refl;
-            end = more.end;
-            end_is = λ e. ends.end_is ∙ at_end k;
-            kept = subst (λ (z : Scans). AreKept (places_at more.end info.samples z) counts.first counts.more counts.left_out) (sym scan) (counted.kept p.places (subst (λ (z : KeptPlaces A). Keeps p.places z) (sym ends.places_are) p.keeps));
-          },
-          subst (HasHashedBytes computes_md5 (bytes_of_frames info.bit_depth (frames_of p.parts))) (sym ends.md5_is) p.hashed,
-        )
+      let p = h.is k in
+      let q = part_at k in
+      let scan : scan_parts info (record { scan = begun_scan; places = [] }) (p.found ++ []) ≡ record { scan = more.scan; places = p.places } =
+      ap (scan_parts info (record { scan = begun_scan; places = [] })) (append-nil p.found) ∙ p.scan ∙ ap (λ (z : Scan). record { scan = z; places = p.places }) (sym ends.scan_is) in (
+        record {
+          parts = p.parts;
+          is_cut = false;
+          front = q.0;
+          rest = b.remaining;
+          joined = q.1;
+          parts_are = p.parts_are;
+          ends = read.eof refl (h.known k);
+          fit = fit_now k bound;
+          frames = counted.frames_are ∙ ends.frames_are ∙ p.frames;
+          samples = counted.samples_are ∙ ends.samples_are ∙ p.samples;
+          sizes = counted.sizes_are ∙ ap (λ (s : SizesSoFar). s.changed) ends.sizes_are ∙ changed_of (frames_of p.parts) walk.sizes p.sizes;
+          found = p.found;
+          last = [];
+          found_are = p.found_are;
+          last_is = refl;
+          end = more.end;
+          end_is = λ e. ends.end_is ∙ at_end k;
+          kept = subst (λ (z : Scans). AreKept (places_at more.end info.samples z) counts.first counts.more counts.left_out) (sym scan) (counted.kept p.places (subst (λ (z : KeptPlaces A). Keeps p.places z) (sym ends.places_are) p.keeps));
+        },
+        subst (HasHashedBytes computes_md5 (bytes_of_frames info.bit_depth (frames_of p.parts))) (sym ends.md5_is) p.hashed,
+      )
 
   module _ {byte end : ℕ} (at : RemainingIsKnown a → (front : List ℕ) → a.remaining ≡ front ++ b.remaining → byte ≡ (start + length front) % 2 ^ 64) where
     pub fault_added : {more : Walk A} (fault : FrameError) (c : State ℕ) → BlockIsRead stream (Err fault.error) b c → (RemainingIsKnown b → IsTrue fault.is_32_bit ↔ Is32BitFault b.remaining fault.error) → is_io fault.error ≡ false → is_out_of_memory fault.error ≡ false → AddsFault fault byte end walk more

@@ -201,7 +201,13 @@ fn fills(ended: &Option<Ended>, due: u64, number: u64) -> bool
 }
 
 // The frame ends this place.
-fn ends_place(due: Due, ended: Option<Ended>, next: Due, frame: &FoundFrame, place: Place) -> Scanned
+fn ends_place(
+    due: Due,
+    ended: Option<Ended>,
+    next: Due,
+    frame: &FoundFrame,
+    place: Place,
+) -> Scanned
     ensures { result ≡ ends_place due ended next frame.now place }
 {
     let skipped = Numbers {

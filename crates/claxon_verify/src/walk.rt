@@ -208,7 +208,10 @@ pub(crate) fn with_fault<A: Allocator>(
         return Err(Error::OutOfMemory);
     }
     let Walk {
-        scan, after, notes, ..
+        scan,
+        after,
+        notes,
+        ..
     } = walk;
     Ok(Walk {
         after: after.with(fault.first),
@@ -229,7 +232,10 @@ pub(crate) fn at_end<A: Allocator>(walk: Walk<A>, span: ByteRange, last: u8) -> 
 {
     let is_left = span.start != span.end;
     let Walk {
-        scan, notes, after, ..
+        scan,
+        notes,
+        after,
+        ..
     } = walk;
     Walk {
         notes: Notes {

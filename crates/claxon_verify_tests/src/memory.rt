@@ -43,7 +43,9 @@ fn streams(rt: HostRuntime) -> Result<(), Fail> {
 #[test]
 fn places(rt: HostRuntime) -> Result<(), Fail> {
     let (first, second) = (frame(FIXED, RATE, 1, 1), frame(FIXED, RATE, 3, 1));
-    let bytes = joined(rt.alloc(), &[&head(0x80), &first, &second])?;
+    let mut head = head(0x80);
+    head[25] = 0;
+    let bytes = joined(rt.alloc(), &[&head, &first, &second])?;
     for (granted, want) in [(0, Err(Fault::Memory)), (1, Ok((0, 1))), (2, Ok((1, 0)))] {
         let heap = RefusesOne::new(rt.alloc(), granted);
         assert!(rt; numbers_of(&heap, &bytes, 999) == want, "{granted}");

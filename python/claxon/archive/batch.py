@@ -61,6 +61,7 @@ _PLACES, _BETWEEN = b'"places":[', b'},{"start_byte":'
 
 # What the system says of reads that fail. Such a read inside a frame may be told as a place.
 _READ_FAILED = frozenset(os.strerror(number) for number in errno.errorcode)
+_READ_NOTE = "a read failed"
 
 # How the text begins of a file that ends inside a frame, and how many thousandths are said to be
 # missing at most.
@@ -378,6 +379,7 @@ class _Places:
         self.first: Dict[str, Any] = {}
         self.last = ""
         self.last_sample: Optional[int] = None
+        self.is_cut = False
         self.number = 0
 
     def add(self, places: List[Dict[str, Any]]) -> None:
@@ -386,6 +388,10 @@ class _Places:
         self.first = self.first or places[0]
         self.last = str(places[-1]["what"])
         self.last_sample = places[-1].get("start_sample")
+        is_at_end = places[-1]["start_byte"] == self._size
+        self.is_cut = self.last.startswith(_CUT) or (
+            is_at_end and self.last.endswith(" missing")
+        )
         self.number += len(places)
         for place in places:
             self._add_range(place["start_byte"], place["end_byte"])
@@ -431,8 +437,10 @@ def unread_row(path: bytes, why: str, version: Optional[str]) -> Row:
 
 def _row(file: File, told: Dict[str, Any], places: _Places, version: str) -> Row:
     verdict = told["verdict"]
-    if verdict == "not read" or places.last in _READ_FAILED:
-        return unread_row(file[0], str(told.get("reason") or places.last), version)
+    has_failed = _READ_NOTE in told.get("notes", ())
+    if verdict == "not read" or places.last in _READ_FAILED or has_failed:
+        why = places.last if places.last in _READ_FAILED else _READ_NOTE
+        return unread_row(file[0], str(told.get("reason") or why), version)
     is_wrong = verdict == "wrong"
     return (
         *file,
@@ -458,7 +466,7 @@ def _missing(told: Dict[str, Any], places: _Places) -> int:
     there, said = told.get("samples", 0), told.get("streaminfo_samples", 0)
     if places.number > 0:
         there = places.last_sample or 0
-        is_known = places.last.startswith(_CUT) and "left_out" not in told
+        is_known = places.is_cut and "left_out" not in told
     else:
         is_known = told.get("md5") != "ok"
     if not is_known or said <= there:
