@@ -100,6 +100,7 @@ class Kinds(unittest.TestCase):
             (r"^the last frame missing|^(33|48|[0-9]{11}) samples in", "cut off before the end"),
             (r"overwritten|missing|from 1 on|a gap", "frames are missing"),
             (r"^a second stream", "a second stream after the first"),
+            (r"^two frames twice$", "another number of samples"),
             (r"twice", "frames are repeated"),
             (r"strategy|fixed|^a streaminfo|a frame of", "frames differ from the streaminfo"),
             (r"^a sample of|^wide samples|^right of", "frames differ from the streaminfo"),

@@ -160,8 +160,8 @@ def other_stream(streaminfo: StreamInfo, due: Due, frame: Frame) -> Optional[str
     bit_depth = streaminfo.bits_per_sample
     if not all(fits(sample, bit_depth) for channel in frame.channels for sample in channel):
         return "a sample has more bits than the streaminfo says"
-    last = due.first_sample(streaminfo, frame) + header.block_size
-    if streaminfo.samples and last > streaminfo.samples:
+    last = due.sample + header.block_size
+    if streaminfo.samples and due.sample <= streaminfo.samples < last:
         return "frames after the streaminfo's last sample"
     return None
 

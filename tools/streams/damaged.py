@@ -310,7 +310,7 @@ def order_rows() -> Iterator[Row]:
     yield wrong("three frames missing", numbered([0, 4], of=5), (2, 32), gap, said=80)
     place = 64, 75, 32, 32, REPEATED
     yield wrong("a frame twice", numbered([0, 1, 1, 2], of=3), (4, 64), place, said=48)
-    place = 64, 86, 32, 32, REPEATED
+    place = 64, 86, 32, 32, BEYOND
     yield wrong("two frames twice", numbered([0, 1, 0, 1], of=2), (4, 64), place, said=32)
     yield wrong(
         "the last frame missing",

@@ -302,16 +302,22 @@ module _ (stream : Option StreamFormat) (info : Streaminfo) where
   is_clean : (scans : Scans) (due : Due) → scans ≡ clean_scans due → IsClean scans
   is_clean scans due e = subst IsClean (sym e) (record { places = refl; ended = refl; begun = refl })
 
-  within : (samples n m : ℕ) → n ≡ m → (samples ≡ 0) ⊎ (m ≤ samples) → not (not (samples == 0) && nat_lt samples n) ≡ true
-  within samples n m e (inl none) = go (samples == 0) (equal samples 0 none)
+  within : (samples due n m : ℕ) → n ≡ m → (samples ≡ 0) ⊎ (m ≤ samples) → not (not (samples == 0) && (not (nat_lt samples due) && nat_lt samples n)) ≡ true
+  within samples due n m e (inl none) = go (samples == 0) (equal samples 0 none)
     where
-      go : (b : Bool) → b ≡ true → not (not b && nat_lt samples n) ≡ true
+      go : (b : Bool) → b ≡ true → not (not b && (not (nat_lt samples due) && nat_lt samples n)) ≡ true
       go b e = rw e refl
-  within samples n m e (inr most) = go (samples == 0) (nat_lt samples n) (not_less samples n (omega (arith, e, most)))
+  within samples due n m e (inr most) = go (samples == 0) (not (nat_lt samples due)) (nat_lt samples n) (not_less samples n (omega (arith, e, most)))
     where
-      go : (b c : Bool) → c ≡ false → not (not b && c) ≡ true
-      go true c e = refl
-      go false c e = rw e refl
+      go : (b d c : Bool) → c ≡ false → not (not b && (d && c)) ≡ true
+      go true d c e = refl
+      go false true c e = rw e refl
+      go false false c e = refl
+
+  due_total : (info : Streaminfo) (frame : FrameValue) (found : FoundFrame) (due : Due) → FrameIs info frame found → (before : List FrameValue) → IsDueAfter before due → sum_by frame_duration (before ++ frame ∷ []) < 2 ^ 64 → (due.sample + found.duration) % 2 ^ 64 ≡ sum_by frame_duration (before ++ frame ∷ [])
+  due_total info frame found due is before at small =
+      let total : due.sample + found.duration ≡ sum_by frame_duration (before ++ frame ∷ []) = ap (λ (n : ℕ). n + found.duration) at.sample ∙ ap (λ (n : ℕ). sum_by frame_duration before + n) is.duration ∙ sym (sum_by_push frame_duration before frame) in
+      same_modulo _ _ total small
 
   -- No more samples than these are wanted.
   abbrev Within : List FrameValue → List FrameOrFault → Type 0
@@ -346,7 +352,7 @@ module _ (stream : Option StreamFormat) (info : Streaminfo) where
       let few = few_of before frame parts more in
       let after = due_next info before frame w.0 due w.2 at right.0 same few.0 few.1 in
       let most_more = within_more before frame parts most in
-      let d = next_is_due info before frame w.0 due w.2 at right.0 (within info.samples _ _ after.sample (within_here (before ++ frame ∷ []) parts most_more)) in
+      let d = next_is_due info before frame w.0 due w.2 at right.0 (within info.samples due.sample _ _ (due_total info frame w.0 due w.2 before at few.1) (within_here (before ++ frame ∷ []) parts most_more)) in
       let step : scan_more info scans h.2 ≡ clean_scans (due_after info due w.0) = ap (λ (z : Result FoundFrame FrameError). with_scanned scans.places (scan_part info scans.scan h.2.start z)) w.1 ∙ due_step scans h.2.start w.0 clean d in
       let due_is = ap (λ (z : Scans). z.scan.due) step in
       let t = sum_by-cons fault_count_of part parts in

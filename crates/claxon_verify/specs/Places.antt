@@ -60,11 +60,13 @@ has_strategy None is_variable = true
 has_strategy (Some true) is_variable = is_variable
 has_strategy (Some false) is_variable = not is_variable
 
--- whether a frame ends after the last sample that the streaminfo says, if it says one
+-- whether fewer samples are due up to the last one that the streaminfo says, if it says one, than a
+-- frame has
 abbrev pub is_beyond : Streaminfo → Due → FoundFrame → Bool
 is_beyond info due frame =
     not (info.samples == 0)
-    && nat_lt info.samples ((first_sample info due frame.header + frame.duration) % 2 ^ 64)
+    && (not (nat_lt info.samples due.sample)
+    && nat_lt info.samples ((due.sample + frame.duration) % 2 ^ 64))
 
 -- Why a frame isn't one of the stream: of its channels, its bit depth, its sample rate, its
 -- blocking strategy, its samples and their number the first that isn't as it has to be.

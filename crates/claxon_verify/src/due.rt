@@ -75,13 +75,13 @@ impl Due {
         }
     }
 
-    // Whether a frame ends after the last sample that the streaminfo says.
+    // Whether fewer samples are due up to the last one that the streaminfo says than a frame has.
     fn is_beyond(self, info: &StreamInfo, frame: &FoundFrame) -> bool
         ensures { result ≡ is_beyond (info_view info.now) self frame.now }
     {
         let samples = info.samples.unwrap_or(0);
-        let first = self.first_sample(info, &frame.header);
-        samples != 0 && first.wrapping_add(u64::from(frame.duration)) > samples
+        let duration = u64::from(frame.duration);
+        samples != 0 && self.sample <= samples && self.sample.wrapping_add(duration) > samples
     }
 
     /// The number of a frame's first sample, as its coded number tells where it isn't the one that is due.

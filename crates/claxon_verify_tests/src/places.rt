@@ -83,10 +83,10 @@ const ROWS: [(Info, &[Part], &[Found]); 29] = [
     ((16, 48), &[RIGHT_0, RIGHT_1], &[(64, 64, 32, 48, Wrong::Missing(16, true))]),
     ((16, 48), &[RIGHT_0, RIGHT_2], &[(53, 53, 16, 32, Wrong::Missing(1, false))]),
     ((16, 64), &[RIGHT_0, RIGHT_2], &[(53, 53, 16, 32, Wrong::Missing(1, false)), (64, 64, 48, 64, Wrong::Missing(16, true))]),
-    // Frames that are there once more: one, two from before, and those of a second stream.
+    // Frames that are there once more: one, and two from before. Those of a second stream are after the last sample.
     ((16, 0), &[RIGHT_0, RIGHT_0, RIGHT_1], &[(53, 64, 16, 16, Wrong::Repeated)]),
     ((16, 64), &[RIGHT_0, RIGHT_1, RIGHT_2, RIGHT_0, RIGHT_1, RIGHT_3], &[(75, 97, 48, 48, Wrong::Repeated)]),
-    ((16, 32), &[RIGHT_0, RIGHT_1, RIGHT_0, RIGHT_1, RIGHT_2], &[(64, 97, 32, 32, Wrong::Repeated)]),
+    ((16, 32), &[RIGHT_0, RIGHT_1, RIGHT_0, RIGHT_1, RIGHT_2], &[(64, 97, 32, 32, Wrong::Beyond)]),
     // Frames after the last sample.
     ((16, 32), &[RIGHT_0, RIGHT_1, RIGHT_2], &[(64, 75, 32, 32, Wrong::Beyond)]),
     // Swapped frames, the last ones, two others, and one that comes three too early.

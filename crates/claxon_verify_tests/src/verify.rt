@@ -103,7 +103,8 @@ const CUT: Wrong = Wrong::Fault(Fault::Io);
 const LOST: Wrong = Wrong::Missing(1, true);
 
 // Numbers of bytes of two frames of one sample, after a head that says that there is one sample; which of the frames have a
-// wrong CRC; and what is said. The head has 42 bytes, and each frame 11. The second frame is after the last sample.
+// wrong CRC; and what is said. The head has 42 bytes, and each frame 11. It says that blocks have 16 samples, so the second frame
+// begins at the sample 16 where the first isn't known.
 const ROWS: [(usize, [bool; 2], Said); 12] = [
     (
         42,
@@ -145,7 +146,7 @@ const ROWS: [(usize, [bool; 2], Said); 12] = [
     (
         64,
         [true, false],
-        ((1, 1, 0), Some((42, 64, 0, 1, CRC)), false),
+        ((1, 1, 0), Some((42, 53, 0, 16, CRC)), false),
     ),
     (
         64,
@@ -480,7 +481,7 @@ const LINES: [(usize, [bool; 2], u8, &str, &str); 8] = [
         [true, false],
         1,
         "wrong, 1 frame, 1 sample, 1 place",
-        "bytes 42 to 64, samples 0 to 1: Ill-formed FLAC stream: frame CRC mismatch",
+        "bytes 42 to 53, samples 0 to 16: Ill-formed FLAC stream: frame CRC mismatch",
     ),
     (
         41,
