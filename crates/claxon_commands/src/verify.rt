@@ -2,7 +2,6 @@
 use crate::program::Program;
 use claxon::Error;
 use claxon::input::BufferedReader;
-use claxon_command_line::arguments::Operands;
 use claxon_command_line::folders::{
     add_contents, is_flac_name, is_folder, is_no_file, is_real_folder,
 };
@@ -25,7 +24,7 @@ use std::str;
 
 pub mod options;
 
-use options::{NamedFiles, Options, VerifyRequest, parse};
+use options::{FileNames, NamedFiles, Options, VerifyRequest, parse};
 
 /// What the command says about itself.
 pub const PROGRAM: Program = Program {
@@ -138,7 +137,7 @@ fn finish<W: Write, E: Write>(
 fn verify_operands<Q: Files + AllocGlobal, I: Read + Copy, W: Write, E: Write>(
     rt: &Q,
     job: Job,
-    names: Operands<'_>,
+    names: FileNames<'_>,
     input: I,
     output: &mut W,
     errors: &mut E,
