@@ -280,13 +280,6 @@ mod tests {
         steps
     }
 
-    #[test]
-    fn two_bytes_are_refused_as_the_library_refuses_them() {
-        for bytes in (0..=u16::MAX).map(u16::to_be_bytes) {
-            assert_eq!(steps_of_reader(&bytes), steps_of_library(&bytes, &mut [0]), "{bytes:02x?}");
-        }
-    }
-
     // Bytes that look random, among them bytes of sync codes and whole frames.
     fn garbage(length: usize) -> Vec<u8> {
         const FRAME: [u8; 11] = [0xff, 0xf8, 0x69, 2, 0, 0, 0x9a, 0, 5, 0x34, 0x58];
