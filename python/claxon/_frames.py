@@ -11,6 +11,7 @@ from claxon._samples import converted
 from claxon._types import Block
 from claxon._window import FIRST_WINDOW, Window
 
+
 class Frames:
     """Decodes the frames of a window."""
 

@@ -10,8 +10,9 @@ FIRST_WINDOW = 1 << 18  # bytes
 
 
 class Window:
-    """Bytes that were read or handed in, and aren't decoded yet. It is doubled where a frame doesn't
-    fit.
+    """Bytes that were read or handed in, and aren't decoded yet.
+
+    It is doubled where a frame doesn't fit.
     """
 
     def __init__(self, source: Optional[Source]) -> None:

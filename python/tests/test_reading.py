@@ -161,7 +161,8 @@ class Objects(unittest.TestCase):
         """Each status of the header is known, and each that is a fault has its class."""
         header = (TOP / "c" / "claxon.h").read_text()
         statuses = header[header.index("enum claxon_status") : header.index("};")]
-        found = {name: int(number) for name, number in re.findall(r"CLAXON_(\w+) = (\d+)", statuses)}
+        pairs = re.findall(r"CLAXON_(\w+) = (\d+)", statuses)
+        found = {name: int(number) for name, number in pairs}
         self.assertEqual(len(found), 9)
         for name, number in found.items():
             self.assertEqual(getattr(_calls, name), number)

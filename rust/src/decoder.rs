@@ -17,10 +17,10 @@ pub struct Held<'a> {
 }
 
 impl<'a> Held<'a> {
-    // The number of those from this position on.
+    // The number of those from this position on; none where they begin after it.
     fn count_from(&self, position: u64) -> usize {
-        let end = self.position + self.bytes.len() as u64;
-        end.saturating_sub(position) as usize
+        let passed = position.checked_sub(self.position);
+        passed.map_or(0, |passed| (self.bytes.len() as u64).saturating_sub(passed) as usize)
     }
 
     // Without those that are more than a frame from this position on may have.

@@ -1,0 +1,178 @@
+//! The decoder without input of its own: what it says of bytes that are handed in, and when.
+mod common;
+
+use claxon::frame::FrameReader;
+use claxon::{Decoder, Error, Event, FlacReader, Held};
+use common::made::*;
+use common::*;
+use std::io::Cursor;
+
+/// What a caller is told, but for `NeedMore`: and how many bytes of the stream were there.
+#[derive(Clone, Debug, PartialEq)]
+enum Told {
+    Block(u64, Vec<i32>),
+    Fault(u64, String),
+    Resynced(u64),
+    End,
+}
+
+/// Holds bytes as an event loop does: those before the decoder's position are dropped, and others are added as it asks.
+struct Caller<'a> {
+    stream: &'a [u8],
+    held: Vec<u8>,
+    start: usize,
+    piece: usize,
+}
+
+impl Caller<'_> {
+    fn end(&self) -> usize {
+        self.start + self.held.len()
+    }
+
+    fn held(&mut self, decoder: &Decoder) -> Held<'_> {
+        let position = decoder.position() as usize;
+        self.held.drain(..position - self.start);
+        self.start = position;
+        Held { bytes: &self.held, position: position as u64, is_end: self.end() == self.stream.len() }
+    }
+
+    fn add(&mut self) {
+        let end = self.end();
+        self.held.extend_from_slice(&self.stream[end..self.stream.len().min(end + self.piece)]);
+    }
+
+    /// All that is told, each with the number of bytes that were there.
+    fn told(mut self, mut decoder: Decoder) -> Vec<(Told, usize)> {
+        let (mut told, mut buffer, mut is_lost) = (Vec::new(), Vec::new(), false);
+        loop {
+            let held = self.held(&decoder);
+            let event = if is_lost { decoder.resync(held) } else { decoder.next_block(held, &mut buffer) };
+            let next = match event {
+                Ok(Event::NeedMore(count)) => {
+                    assert!(count > self.end() - decoder.position() as usize && self.end() < self.stream.len());
+                    self.add();
+                    continue;
+                }
+                Ok(Event::Block(block)) => Told::Block(block.time(), block.into_buffer()),
+                Ok(Event::Resynced(count)) => Told::Resynced(count),
+                Ok(Event::End) => Told::End,
+                Err(error) => Told::Fault(decoder.position(), fault(&error)),
+            };
+            is_lost = matches!(next, Told::Fault(..));
+            told.push((next.clone(), self.end()));
+            if next == Told::End {
+                return told;
+            }
+        }
+    }
+}
+
+fn decoder_of(stream: &[u8]) -> Decoder {
+    let streaminfo = FlacReader::new(stream).unwrap().streaminfo();
+    Decoder::with_streaminfo(streaminfo, bytes(HEAD).len() as u64)
+}
+
+fn told_of(stream: &[u8], piece: usize) -> Vec<(Told, usize)> {
+    let start = bytes(HEAD).len();
+    Caller { stream, held: Vec::new(), start, piece }.told(decoder_of(stream))
+}
+
+fn without_ends(told: Vec<(Told, usize)>) -> Vec<Told> {
+    told.into_iter().map(|(told, _)| told).collect()
+}
+
+fn block_of(made: &Made, number: usize) -> Told {
+    let samples = made.blocks[number].iter().map(|byte| i32::from(*byte as i8)).collect();
+    Told::Block((number * made.size) as u64, samples)
+}
+
+/// Each block is told with the last byte of its frame, and the end with that of the stream.
+#[test]
+fn blocks_in_time() {
+    let made = Made::new(12, 300, 1);
+    let stream = made.stream();
+    let mut ends = Vec::new();
+    let mut end = bytes(HEAD).len();
+    for frame in &made.frames {
+        end += frame.len();
+        ends.push(end);
+    }
+    for piece in [1, 100, 1460, usize::MAX >> 1] {
+        let told = told_of(&stream, piece);
+        assert_eq!(told.len(), 13);
+        for (number, (found, there)) in told[..12].iter().enumerate() {
+            assert!(*found == block_of(&made, number), "{number} by {piece}");
+            assert!(*there < ends[number] + piece.min(stream.len()), "{number} by {piece}");
+        }
+        assert_eq!(told[12].0, Told::End);
+    }
+}
+
+/// After a fault the search goes on, and what is told is the same in pieces of any size.
+#[test]
+fn faults() {
+    let made = Made::new(12, 300, 1);
+    let mut frames = made.frames.clone();
+    frames[3][7] ^= 1;
+    frames[6].truncate(9);
+    frames[11].pop();
+    let stream = [head(300, 0), frames.concat()].concat();
+    let begin = |number: usize| (bytes(HEAD).len() + frames[..number].concat().len()) as u64;
+    let told = without_ends(told_of(&stream, 1));
+    let faults: Vec<_> = told.iter().filter(|told| matches!(told, Told::Fault(..) | Told::Resynced(_))).collect();
+    assert_eq!(faults[0], &Told::Fault(begin(3), ill_formed("frame header CRC mismatch")));
+    assert_eq!(faults[1], &Told::Resynced(frames[3].len() as u64));
+    assert!(matches!(faults[2], Told::Fault(position, _) if *position == begin(6)));
+    assert_eq!(faults[3], &Told::Resynced(9));
+    assert_eq!(faults[4], &Told::Fault(begin(11), "IO".to_string()));
+    assert_eq!(faults.len(), 5);
+    let blocks: Vec<_> = told.iter().filter(|told| matches!(told, Told::Block(..))).cloned().collect();
+    let expected: Vec<_> = [0, 1, 2, 4, 5, 7, 8, 9, 10].iter().map(|number| block_of(&made, *number)).collect();
+    assert!(blocks == expected);
+    for piece in [2, 7, 100, 1460, usize::MAX >> 1] {
+        assert!(without_ends(told_of(&stream, piece)) == told, "{piece}");
+    }
+}
+
+/// Without `resync` the next call goes on after the bytes that show the fault, as that of a reader does.
+#[test]
+fn after_a_fault() {
+    let damaged = bytes("fff8690200009b00053458");
+    let stream = [damaged, bytes(FRAME), bytes(FRAME)].concat();
+    let (mut decoder, mut frames) = (Decoder::without_head(0), FrameReader::new(Cursor::new(&stream)));
+    let mut count = 0;
+    loop {
+        let held = Held { bytes: &stream, position: 0, is_end: true };
+        let event = decoder.next_block(held, &mut Vec::new());
+        match (event, frames.read_next_or_eof(Vec::new())) {
+            (Ok(Event::Block(block)), Ok(Some(expected))) => assert_eq!(block.channel(0), expected.channel(0)),
+            (Ok(Event::End), Ok(None)) => break,
+            (Err(error), Err(expected)) => assert_eq!(error, expected),
+            _ => panic!("another event than that of a reader"),
+        }
+        count += 1;
+    }
+    assert_eq!(count, 5);
+}
+
+/// A copy goes on by itself, and positions may be counted from anywhere.
+#[test]
+fn copies_and_positions() {
+    let stream = [bytes(FRAME), bytes(FRAME)].concat();
+    let begin = 1 << 40;
+    let held = |count: usize| Held { bytes: &stream[..count], position: begin, is_end: count == stream.len() };
+    let mut decoder = Decoder::without_head(begin);
+    assert!(matches!(decoder.next_block(held(4), &mut Vec::new()), Ok(Event::NeedMore(5))));
+    let mut copy = decoder;
+    for decoder in [&mut decoder, &mut copy] {
+        for number in 1..3 {
+            let block = decoder.next_block(held(22), &mut Vec::new());
+            assert!(matches!(block, Ok(Event::Block(block)) if block.channel(0) == [5]));
+            assert_eq!(decoder.position(), begin + 11 * number);
+        }
+        assert!(matches!(decoder.next_block(held(22), &mut Vec::new()), Ok(Event::End)));
+    }
+    let mut far = Decoder::without_head(u64::MAX >> 1);
+    let held = Held { bytes: &stream, position: u64::MAX >> 1, is_end: true };
+    assert!(matches!(far.next_block(held, &mut Vec::new()), Err(Error::Unsupported(_))));
+}
