@@ -8,6 +8,7 @@ OK, FORMAT_ERROR, UNSUPPORTED, INPUT_ENDS = 0, 1, 2, 3
 OUT_OF_MEMORY, NO_MORE, BUFFER_TOO_SMALL, OVER_BUDGET = 4, 5, 6, 7
 NEED_MORE = 100
 STREAMINFO, SEEK_TABLE, VORBIS_COMMENT, CUE_SHEET, PICTURE = 0, 3, 4, 5, 6
+METADATA_HEADER, METADATA_CONTENT = 1, 2
 MAX_FRAME_BYTES = 16777215
 INTERFACE = 3  # the minor version of the library, below 1.0.0
 _LIBRARY = f"libclaxon.so.0.{INTERFACE}"
@@ -56,6 +57,24 @@ class Block(ctypes.Structure):
         ("duration", ctypes.c_uint32),
         ("sample_rate", ctypes.c_uint32),
         ("bits_per_sample", ctypes.c_uint32),
+    ]
+
+
+class Head(ctypes.Structure):
+    _fields_ = [
+        ("position", ctypes.c_uint64),
+        ("begin", ctypes.c_uint64),
+        ("next", ctypes.c_uint32),
+        ("is_last", ctypes.c_uint8),
+        ("type", ctypes.c_uint8),
+        ("length", ctypes.c_uint32),
+        ("is_metadata_only", ctypes.c_uint8),
+        ("has_comment_option", ctypes.c_uint8),
+        ("has_info", ctypes.c_uint8),
+        ("has_comment", ctypes.c_uint8),
+        ("most", ctypes.c_uint32),
+        ("needed", ctypes.c_size_t),
+        ("part", ctypes.c_uint32),
     ]
 
 
@@ -154,14 +173,14 @@ def _declare(found: ctypes.CDLL) -> None:
     position, number = ctypes.c_uint64, ctypes.c_uint32
     text, memory = ctypes.c_char_p, ctypes.c_void_p
     info, block = ctypes.POINTER(Info), ctypes.POINTER(Block)
-    frames, search = ctypes.POINTER(Frames), ctypes.POINTER(Search)
+    head, frames, search = (ctypes.POINTER(struct) for struct in (Head, Frames, Search))
     md5, digest = ctypes.POINTER(Md5), ctypes.POINTER(ctypes.c_uint8 * 16)
     held: List[Any] = [memory, size, position, number]
     frame: List[Any] = [memory, size, to_size, info, memory, size, block, text, size]
     arguments: Dict[str, List[Any]] = {
         "claxon_open": [text, size, info, text, size],
-        "claxon_streaminfo": [text, size, info, text, size],
-        "claxon_next_metadata": [text, size, to_size, ctypes.POINTER(Metadata)],
+        "claxon_head_start": [head, position],
+        "claxon_head_next": [head, *held, info, ctypes.POINTER(Metadata), text, size],
         "claxon_vendor": [text, size] + 3 * [to_size] + [text, size],
         "claxon_next_tag": [text, size, to_size, ctypes.POINTER(Tag), text, size],
         "claxon_frames_start": [frames, position],

@@ -98,7 +98,7 @@ class Frames:
         text = self._error.value.decode("utf-8")
         if self.info.bits_per_sample != 32:
             return fault_of(status, text, position)
-        return frame_fault_of(status, text, position, window.first_bytes())
+        return frame_fault_of(status, text, position, window.bytes_from(position, 4))
 
     # ---- decoding
 

@@ -1,7 +1,7 @@
 """The bytes of a stream that are held."""
 import ctypes
 from array import array
-from typing import Generator, Optional, Union
+from typing import Optional, Union
 
 from claxon._calls import MAX_FRAME_BYTES
 from claxon._files import Source
@@ -40,9 +40,10 @@ class Window:
         """The byte at this position in the file, of a frame that was decoded last."""
         return self._bytes[position - self.start]
 
-    def first_bytes(self) -> bytes:
-        """Some of the first bytes of the next frame."""
-        return self._bytes[self.at.value : min(self.at.value + 4, self.end)].tobytes()
+    def bytes_from(self, position: int, count: int) -> bytes:
+        """Some of the bytes that are held: so many from this position on, or fewer."""
+        start = position - self.start
+        return self._bytes[start : min(start + count, self.end)].tobytes()
 
     def fill(self, most: int) -> bool:
         """Reads once, at most so many bytes. False where none come, or not from a file."""
@@ -82,41 +83,19 @@ class Window:
             self._bytes.frombytes(bytes(size - len(self._bytes)))
             self.address = self._bytes.buffer_info()[0]
 
-    def show(self, count: int) -> Generator[int, None, bytes]:
-        """The same bytes as `take`, which aren't passed."""
-        while self.held() < count and not self.has_ended:
-            yield count - self.held()
-        return self._bytes[self.at.value : min(self.at.value + count, self.end)].tobytes()
-
-    def take(self, count: int) -> Generator[int, None, bytes]:
-        """This number of bytes; fewer where they end. Yields how many more are needed."""
-        parts = []
-        while count:
-            part = self._bytes[self.at.value : min(self.at.value + count, self.end)].tobytes()
-            self.at.value += len(part)
-            parts.append(part)
-            count -= len(part)
-            if count and self.has_ended and self.at.value == self.end:
-                break
-            if count:
-                yield count
-        return b"".join(parts)
-
-    def skip(self, count: int) -> Generator[int, None, bool]:
-        """Passes this number of bytes. False where they end before. Yields as `take`."""
-        while count:
-            part = min(count, self.end - self.at.value)
-            self.at.value += part
-            count -= part
-            if count and self.has_ended:
+    def skip_to(self, position: int, step: int) -> bool:
+        """Passes the bytes before this position, also those that have to be read, at most so many
+        at once. False where they end before, or more have to be handed in.
+        """
+        while True:
+            self.pass_to(position)
+            count = position - self.position()
+            if not count:
+                return True
+            if self._source is not None and not self.has_ended and self._source.passes(count):
+                self.start += count
+            elif not self.fill(min(count, step)):
                 return False
-            # The last byte is read: one can seek past the end of a file.
-            if self._source is not None and count and self._source.passes(count - 1):
-                self.start += count - 1
-                count = 1
-            if count:
-                yield count
-        return True
 
     def can_seek(self) -> bool:
         return self._source is not None and self._source.can_seek()
