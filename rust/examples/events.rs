@@ -2,8 +2,8 @@
 //!
 //! usage: events < STREAMS
 //!
-//! Each stream on standard input is: the number of pieces, the lengths of these, and the bytes. Numbers are of 32 bits,
-//! little-endian. What is said of it is lines of text, and after a line `block` the samples of the block.
+//! Each stream on standard input is: the number of pieces, the lengths of these, the number of bytes, and the bytes. Numbers
+//! are of 32 bits, little-endian. What is said of it is lines of text, and after a line `block` the samples of the block.
 use claxon::{Block, Decoder, Error, Event, FlacReader, Held, Result};
 use std::io::{self, Read, Write};
 
@@ -59,13 +59,14 @@ fn write_read(output: &mut impl Write, flac: &mut FlacReader<Pieces<'_>>) -> Res
     }
 }
 
-/// What a decoder says of the bytes from where the first frame begins.
-fn write_decoded(output: &mut impl Write, mut decoder: Decoder, bytes: &[u8], pieces: &[usize]) -> Result<()> {
-    let (mut ends, mut end, mut buffer, mut is_lost) = (pieces.iter(), 0, Vec::new(), false);
+/// What a decoder says.
+fn write_decoded(output: &mut impl Write, bytes: &[u8], pieces: &[usize], has_head: bool) -> Result<()> {
+    let (mut decoder, mut ends) = (Decoder::new(), pieces.iter());
+    let (mut end, mut buffer, mut is_lost) = (0, Vec::new(), false);
     loop {
         let start = (decoder.position() as usize).min(end);
         let held = Held { bytes: &bytes[start..end], position: start as u64, is_end: end == bytes.len() };
-        let event = if is_lost { decoder.resync(held) } else { decoder.next_block(held, &mut buffer) };
+        let event = if is_lost { decoder.resync(held) } else { decoder.decode(held, &mut buffer) };
         match event {
             Ok(Event::NeedMore(_)) => end = bytes.len().min(end + ends.next().copied().unwrap_or(bytes.len())),
             Ok(Event::Block(block)) => write_block(output, block)?,
@@ -79,6 +80,8 @@ fn write_decoded(output: &mut impl Write, mut decoder: Decoder, bytes: &[u8], pi
                 }
                 return Ok(());
             }
+            Ok(_) => {}
+            Err(error) if !has_head => return Ok(writeln!(output, "head {}", name(&error))?),
             Err(error) => {
                 is_lost = true;
                 writeln!(output, "fault {} {}", decoder.position(), name(&error))?;
@@ -87,15 +90,15 @@ fn write_decoded(output: &mut impl Write, mut decoder: Decoder, bytes: &[u8], pi
     }
 }
 
-fn write_events(output: &mut impl Write, bytes: &[u8], pieces: &[usize], first_frame: usize) -> Result<()> {
-    let mut flac = match FlacReader::new(Pieces { bytes, lengths: pieces.iter() }) {
-        Ok(flac) => flac,
-        Err(error) => return Ok(writeln!(output, "head {}\nend", name(&error))?),
-    };
-    let decoder = Decoder::with_streaminfo(flac.streaminfo(), first_frame as u64);
-    write_read(output, &mut flac)?;
+fn write_events(output: &mut impl Write, bytes: &[u8], pieces: &[usize]) -> Result<()> {
+    let opened = FlacReader::new(Pieces { bytes, lengths: pieces.iter() });
+    let has_head = opened.is_ok();
+    match opened {
+        Ok(mut flac) => write_read(output, &mut flac)?,
+        Err(error) => writeln!(output, "head {}", name(&error))?,
+    }
     writeln!(output, "end")?;
-    write_decoded(output, decoder, bytes, pieces)?;
+    write_decoded(output, bytes, pieces, has_head)?;
     Ok(writeln!(output, "end")?)
 }
 
@@ -109,10 +112,9 @@ fn main() -> Result<()> {
     let (mut input, mut output) = (io::stdin().lock(), io::BufWriter::new(io::stdout().lock()));
     while let Ok(count) = read_number(&mut input) {
         let pieces = (0..count).map(|_| read_number(&mut input)).collect::<io::Result<Vec<usize>>>()?;
-        let (first_frame, length) = (read_number(&mut input)?, read_number(&mut input)?);
-        let mut bytes = vec![0; length];
+        let mut bytes = vec![0; read_number(&mut input)?];
         input.read_exact(&mut bytes)?;
-        write_events(&mut output, &bytes, &pieces, first_frame)?;
+        write_events(&mut output, &bytes, &pieces)?;
         output.flush()?;
     }
     Ok(())

@@ -2,7 +2,8 @@
 use crate::error::{format_error, Error, Result};
 use crate::ffi::{self, Failure, Frames, Info, NextFound, NextFrame, Search, MAX_FRAME_BYTES};
 use crate::frame::Block;
-use crate::metadata::StreamInfo;
+use crate::head::{Head, Part};
+use crate::metadata::{StreamInfo, VorbisComment};
 use std::mem;
 
 /// Bytes of a stream that the caller of a [`Decoder`] holds.
@@ -31,8 +32,15 @@ impl<'a> Held<'a> {
 }
 
 /// What a [`Decoder`] says of the bytes that are held.
+#[non_exhaustive]
 pub enum Event {
-    /// The next block.
+    /// The streaminfo block, the first one of the head.
+    StreamInfo(StreamInfo),
+
+    /// The Vorbis comments of the head.
+    VorbisComment(VorbisComment),
+
+    /// The next block of samples.
     Block(Block),
 
     /// A frame was found after as many bytes. The next block is that of it.
@@ -45,39 +53,41 @@ pub enum Event {
     End,
 }
 
-/// Decodes the frames of a stream whose bytes the caller holds: for event loops, async readers and bytes in memory.
+/// Decodes a stream whose bytes the caller holds: for event loops, async readers and bytes in memory.
 ///
-/// It is the engine of [`FrameReader`](crate::frame::FrameReader), and a plain value that takes no memory: a copy goes on
-/// by itself. However a stream is cut into what is handed in, the events but `NeedMore` are the same.
+/// [`FrameReader`](crate::frame::FrameReader) is a loop over it. It is a plain value that takes no memory: a copy goes on by
+/// itself. However a stream is cut into what is handed in, the events but `NeedMore` are the same.
 ///
 /// ```
 /// # fn main() -> claxon::Result<()> {
 /// use claxon::{Decoder, Event, Held};
 ///
 /// let stream = std::fs::read("examples/tagged.flac")?;
-/// let (mut decoder, mut is_frame) = (Decoder::without_head(0), false);
-/// let (mut end, mut count, mut buffer) = (0, 0, Vec::new());
+/// let (mut decoder, mut buffer, mut count) = (Decoder::new(), Vec::new(), 0);
+/// let mut end = 0;
 /// loop {
 ///     // An async caller drops the bytes before `decoder.position()`, and awaits others.
-///     let start = decoder.position() as usize;
+///     let start = end.min(decoder.position() as usize);
 ///     let held = Held { bytes: &stream[start..end], position: start as u64, is_end: end == stream.len() };
-///     let event = if is_frame { decoder.next_block(held, &mut buffer) } else { decoder.resync(held) };
-///     match event? {
-///         Event::Resynced(_) => is_frame = true,
+///     match decoder.decode(held, &mut buffer)? {
 ///         Event::NeedMore(_) => end = stream.len().min(end + 1460),
 ///         Event::Block(block) => {
 ///             count += block.duration();
 ///             buffer = block.into_buffer();
 ///         }
+///         Event::StreamInfo(info) => println!("{} Hz", info.sample_rate),
 ///         Event::End => break,
+///         _ => {}
 ///     }
 /// }
-/// assert_eq!(u64::from(count), claxon::FlacReader::new(&stream[..])?.streaminfo().samples.unwrap());
+/// assert_eq!(count, 9876);
 /// # Ok(())
 /// # }
 /// ```
 #[derive(Clone, Copy, Debug)]
 pub struct Decoder {
+    // As long as it isn't whole.
+    head: Option<Head>,
     frames: Frames,
     search: Search,
     info: Info,
@@ -96,7 +106,18 @@ enum Lost {
     Skipping(u64),
 }
 
+impl Default for Decoder {
+    fn default() -> Decoder {
+        Decoder::new()
+    }
+}
+
 impl Decoder {
+    /// A decoder of a stream from its first byte on, which has the position 0.
+    pub fn new() -> Decoder {
+        Decoder { head: Some(Head::start(0)), ..Decoder::without_head(0) }
+    }
+
     /// A decoder of the frames of an unknown stream from this position on, which may be counted from anywhere. A frame
     /// has to give its bit depth.
     pub fn without_head(position: u64) -> Decoder {
@@ -110,29 +131,58 @@ impl Decoder {
 
     fn of(info: Info, position: u64) -> Decoder {
         let (frames, search) = (Frames::start(position), Search::start(position));
-        Decoder { frames, search, info, lost: Lost::Nothing, usual: 0 }
+        Decoder { head: None, frames, search, info, lost: Lost::Nothing, usual: 0 }
     }
 
-    /// The position of the first byte that is needed. Those before may be dropped.
+    /// The position of the first byte that is needed. Those before may be dropped. It may stand after those that are held:
+    /// a picture is passed.
     ///
     /// After an error that is the first byte of the faulty frame, from which [`Decoder::resync`] goes on.
     pub fn position(&self) -> u64 {
-        match self.lost {
-            Lost::Refused(begin) => begin,
-            Lost::Nothing | Lost::Skipping(_) => self.frames.position,
+        match (self.head, self.lost) {
+            (Some(head), _) => head.position(),
+            (None, Lost::Refused(begin)) => begin,
+            (None, Lost::Nothing | Lost::Skipping(_)) => self.frames.position,
         }
     }
 
-    /// Decodes the next frame. The samples of its block are in the buffer's memory, which is taken if it suffices.
+    /// Decodes what comes next: the streaminfo, the comments if there are some, and then one block after another. Its samples
+    /// are in the buffer's memory, which is taken if it suffices.
     ///
     /// A block is given as soon as its frame is held: `NeedMore` says that no whole frame is there, or that very many
     /// tries were in vain, to which no stream of an encoder leads.
     ///
     /// # Errors
     ///
-    /// Those of [`FrameReader::read_next_or_eof`](crate::frame::FrameReader::read_next_or_eof). After a fault the next
-    /// call continues after the bytes that had to be read to see it.
-    pub fn next_block(&mut self, held: Held<'_>, buffer: &mut Vec<i32>) -> Result<Event> {
+    /// Those of [`FlacReader::new`](crate::FlacReader::new), after which the head isn't over, and those of
+    /// [`FrameReader::read_next_or_eof`](crate::frame::FrameReader::read_next_or_eof), after which the next call
+    /// continues after the bytes that had to be read to see the fault.
+    pub fn decode(&mut self, held: Held<'_>, buffer: &mut Vec<i32>) -> Result<Event> {
+        while let Some(mut head) = self.head {
+            let part = head.next(held)?;
+            self.head = Some(head);
+            match part {
+                Part::StreamInfo(streaminfo) => {
+                    self.info = streaminfo.info();
+                    return Ok(Event::StreamInfo(streaminfo));
+                }
+                Part::VorbisComment(comment) => return Ok(Event::VorbisComment(comment)),
+                Part::NeedMore(count) => return Ok(Event::NeedMore(count)),
+                Part::Whole => self.leave_head(),
+                Part::Other => {}
+            }
+        }
+        self.next_block(held, buffer)
+    }
+
+    // Goes on with frames.
+    fn leave_head(&mut self) {
+        if let Some(head) = self.head.take() {
+            self.frames.go_on(head.position());
+        }
+    }
+
+    fn next_block(&mut self, held: Held<'_>, buffer: &mut Vec<i32>) -> Result<Event> {
         self.lost = Lost::Nothing;
         let begin = self.frames.position;
         let is_full = held.count_from(begin) >= MAX_FRAME_BYTES;
@@ -164,13 +214,14 @@ impl Decoder {
         Err(failure.into())
     }
 
-    /// Goes to the next frame of the stream, as [`FrameReader::resync`](crate::frame::FrameReader::resync) does: to be
-    /// called until it gives `Resynced`, or `End` where no frame is left.
+    /// Goes to the next frame of the stream, as [`FrameReader::resync`](crate::frame::FrameReader::resync) does, also
+    /// after a fault of the head: to be called until it gives `Resynced`, or `End` where no frame is left.
     ///
     /// # Errors
     ///
     /// An `IoError` where memory is refused. The call may be repeated.
     pub fn resync(&mut self, held: Held<'_>) -> Result<Event> {
+        self.leave_head();
         let begin = self.begin_search();
         let found = self.find(held);
         let position = match found {

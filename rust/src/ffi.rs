@@ -73,6 +73,35 @@ impl Block {
     }
 }
 
+/// `struct claxon_metadata`.
+#[repr(C)]
+#[derive(Clone, Copy, Debug, Default)]
+pub struct Metadata {
+    pub content: usize,
+    pub length: u32,
+    pub block_type: u8,
+    is_last: u8,
+}
+
+/// `struct claxon_head`.
+#[repr(C)]
+#[derive(Clone, Copy, Debug, Default)]
+pub struct Head {
+    pub position: u64,
+    begin: u64,
+    next: u32,
+    is_last: u8,
+    block_type: u8,
+    length: u32,
+    is_metadata_only: u8,
+    has_comment_option: u8,
+    has_info: u8,
+    has_comment: u8,
+    most: u32,
+    pub needed: usize,
+    part: u32,
+}
+
 /// `struct claxon_frames`.
 #[repr(C)]
 #[derive(Clone, Copy, Debug, Default)]
@@ -115,6 +144,7 @@ pub struct Md5 {
 
 // The sizes that `claxon.h` asserts.
 const _: () = assert!(size_of::<Info>() == 64 && size_of::<Tag>() == 32 && size_of::<Block>() == 24);
+const _: () = assert!(size_of::<Metadata>() == 16 && size_of::<Head>() == 56);
 const _: () = assert!(size_of::<Md5>() == 88 && size_of::<Frames>() == 56 && size_of::<Search>() == 80);
 
 /// A text that the library writes. Its longest one has 92 bytes.
@@ -161,6 +191,18 @@ extern "C" {
         info: *const Info,
         budget: *mut u64,
         block: *mut Block,
+    ) -> u32;
+    fn claxon_head_start(head: *mut Head, position: u64);
+    fn claxon_head_next(
+        head: *mut Head,
+        bytes: *const u8,
+        length: usize,
+        at: u64,
+        is_end: u32,
+        info: *mut Info,
+        metadata: *mut Metadata,
+        error: *mut u8,
+        error_size: usize,
     ) -> u32;
     fn claxon_frames_start(frames: *mut Frames, position: u64);
     fn claxon_frames_go_on(frames: *mut Frames, position: u64);
@@ -345,6 +387,61 @@ pub fn find_frame(bytes: &[u8], info: &Info, mut budget: u64) -> HeaderSearch {
     }
 }
 
+/// What the next part of a head is, by the bytes that are held.
+pub enum NextPart {
+    /// The content of the metadata block whose header was read last.
+    Content,
+    /// The marker, or the header of a metadata block.
+    Other,
+    NeedMore,
+    Whole,
+    Failed(Failure),
+}
+
+// The content of a metadata block, as `enum claxon_part` has it.
+const METADATA_CONTENT: u32 = 2;
+
+impl Head {
+    /// From this position on. Where the library has another interface, each later call fails.
+    pub fn start(position: u64) -> Head {
+        let mut head = Head::default();
+        if check_library().is_ok() {
+            // SAFETY: as the module says.
+            unsafe { claxon_head_start(&mut head, position) }
+        }
+        head
+    }
+
+    /// Reads the next part.
+    pub fn next(&mut self, held: Held<'_>, info: &mut Info, metadata: &mut Metadata) -> NextPart {
+        if let Err(failure) = check_library() {
+            return NextPart::Failed(failure);
+        }
+        let mut text = NO_TEXT;
+        // SAFETY: as the module says.
+        let status = unsafe {
+            claxon_head_next(
+                self,
+                held.bytes.as_ptr(),
+                held.bytes.len(),
+                held.position,
+                u32::from(held.is_end),
+                info,
+                metadata,
+                text.as_mut_ptr(),
+                text.len(),
+            )
+        };
+        match status {
+            OK if self.part == METADATA_CONTENT => NextPart::Content,
+            OK => NextPart::Other,
+            NEED_MORE => NextPart::NeedMore,
+            NO_MORE => NextPart::Whole,
+            _ => NextPart::Failed(Failure { status, text }),
+        }
+    }
+}
+
 /// What the next frame of a stream is, by the bytes that are held.
 pub enum NextFrame {
     Found(Block),
@@ -356,7 +453,7 @@ pub enum NextFrame {
 }
 
 impl Frames {
-    /// From this position on. Where the library has another interface, each later call fails.
+    /// As `Head::start`.
     pub fn start(position: u64) -> Frames {
         let mut frames = Frames::default();
         if check_library().is_ok() {
@@ -413,7 +510,7 @@ pub enum NextFound {
 }
 
 impl Search {
-    /// As `Frames::start`.
+    /// As `Head::start`.
     pub fn start(position: u64) -> Search {
         let mut search = Search::default();
         if check_library().is_ok() {

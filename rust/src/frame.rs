@@ -183,12 +183,12 @@ impl<R: ReadBytes> FrameReader<R> {
         }
         let mut is_end = false;
         loop {
-            let event = self.decoder.next_block(self.input.held(is_end), &mut buffer);
+            let event = self.decoder.decode(self.input.held(is_end), &mut buffer);
             self.go_to_decoder();
             match event? {
                 Event::Block(block) => return Ok(Some(block)),
                 Event::NeedMore(_) => is_end = self.input.fill(FRAME_CAPACITY)? == 0,
-                Event::Resynced(_) | Event::End => return Ok(None),
+                _ => return Ok(None),
             }
         }
     }
@@ -215,7 +215,7 @@ impl<R: ReadBytes> FrameReader<R> {
             match event? {
                 Event::Resynced(skipped) => return Ok(Some(skipped)),
                 Event::NeedMore(_) => is_end = self.input.fill(FRAME_CAPACITY)? == 0,
-                Event::Block(_) | Event::End => return Ok(None),
+                _ => return Ok(None),
             }
         }
     }

@@ -1,7 +1,8 @@
 //! Readers of bytes.
 use crate::decoder::Decoder;
 use crate::error::end_of_input;
-use crate::source::{Decoded, Source, FRAME_CAPACITY, METADATA_CAPACITY};
+use crate::seek::Decoded;
+use crate::source::{Source, FRAME_CAPACITY, METADATA_CAPACITY};
 use std::io::{self, SeekFrom};
 
 /// A reader with a buffer, for any `io::Read`.

@@ -3,7 +3,7 @@ use crate::error::Result;
 use crate::ffi::{self, Block, Failure, HeaderSearch, Info, NextBlock, MAX_FRAME_BYTES};
 use crate::input::BufferedReader;
 use crate::metadata::StreamInfo;
-use crate::source::{Decoded, Source, FRAME_CAPACITY};
+use crate::source::{Source, FRAME_CAPACITY};
 use std::io::{Read, Seek};
 
 // How many bytes are read at once to find a header: most frames have fewer.
@@ -37,6 +37,14 @@ pub(crate) fn seek<R: Read + Seek>(
 /// Whether the bytes ended before the frame did.
 pub(crate) fn is_cut(failure: &Failure) -> bool {
     failure.status == ffi::INPUT_ENDS || failure.status == ffi::NO_MORE
+}
+
+/// A frame that was decoded.
+pub struct Decoded {
+    pub block: Block,
+    pub samples: Vec<i32>,
+    /// The number of its bytes.
+    pub length: usize,
 }
 
 struct Seeker<'a, R: Read> {

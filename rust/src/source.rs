@@ -1,6 +1,6 @@
 //! What frames are decoded from.
 use crate::decoder::{Decoder, Held};
-use crate::ffi::Block;
+use crate::seek::Decoded;
 use std::io;
 
 /// The capacity of a buffer for metadata: tags mostly fit, and where they alone are read little else is.
@@ -8,14 +8,6 @@ pub const METADATA_CAPACITY: usize = 1 << 12;
 
 /// That for frames: some twenty of music, as a frame that is cut by the end of the buffer is decoded twice.
 pub const FRAME_CAPACITY: usize = 1 << 18;
-
-/// A frame that was decoded.
-pub struct Decoded {
-    pub block: Block,
-    pub samples: Vec<i32>,
-    /// The number of its bytes.
-    pub length: usize,
-}
 
 /// Bytes that can be looked at before they are consumed.
 pub trait Source {

@@ -10,6 +10,8 @@ use std::io::Cursor;
 /// What a caller is told, but for `NeedMore`: and how many bytes of the stream were there.
 #[derive(Clone, Debug, PartialEq)]
 enum Told {
+    StreamInfo(String),
+    VorbisComment(String, Vec<(String, usize)>),
     Block(u64, Vec<i32>),
     Fault(u64, String),
     Resynced(u64),
@@ -30,10 +32,10 @@ impl Caller<'_> {
     }
 
     fn held(&mut self, decoder: &Decoder) -> Held<'_> {
-        let position = decoder.position() as usize;
-        self.held.drain(..position - self.start);
-        self.start = position;
-        Held { bytes: &self.held, position: position as u64, is_end: self.end() == self.stream.len() }
+        let passed = (decoder.position() as usize - self.start).min(self.held.len());
+        self.held.drain(..passed);
+        self.start += passed;
+        Held { bytes: &self.held, position: self.start as u64, is_end: self.end() == self.stream.len() }
     }
 
     fn add(&mut self) {
@@ -46,16 +48,18 @@ impl Caller<'_> {
         let (mut told, mut buffer, mut is_lost) = (Vec::new(), Vec::new(), false);
         loop {
             let held = self.held(&decoder);
-            let event = if is_lost { decoder.resync(held) } else { decoder.next_block(held, &mut buffer) };
+            let event = if is_lost { decoder.resync(held) } else { decoder.decode(held, &mut buffer) };
             let next = match event {
                 Ok(Event::NeedMore(count)) => {
-                    assert!(count > self.end() - decoder.position() as usize && self.end() < self.stream.len());
+                    assert!(decoder.position() as usize + count > self.end() && self.end() < self.stream.len());
                     self.add();
                     continue;
                 }
                 Ok(Event::Block(block)) => Told::Block(block.time(), block.into_buffer()),
                 Ok(Event::Resynced(count)) => Told::Resynced(count),
-                Ok(Event::End) => Told::End,
+                Ok(Event::StreamInfo(info)) => Told::StreamInfo(streaminfo(&info)),
+                Ok(Event::VorbisComment(comment)) => Told::VorbisComment(comment.vendor, comment.comments),
+                Ok(_) => Told::End,
                 Err(error) => Told::Fault(decoder.position(), fault(&error)),
             };
             is_lost = matches!(next, Told::Fault(..));
@@ -143,7 +147,7 @@ fn after_a_fault() {
     let mut count = 0;
     loop {
         let held = Held { bytes: &stream, position: 0, is_end: true };
-        let event = decoder.next_block(held, &mut Vec::new());
+        let event = decoder.decode(held, &mut Vec::new());
         match (event, frames.read_next_or_eof(Vec::new())) {
             (Ok(Event::Block(block)), Ok(Some(expected))) => assert_eq!(block.channel(0), expected.channel(0)),
             (Ok(Event::End), Ok(None)) => break,
@@ -162,17 +166,49 @@ fn copies_and_positions() {
     let begin = 1 << 40;
     let held = |count: usize| Held { bytes: &stream[..count], position: begin, is_end: count == stream.len() };
     let mut decoder = Decoder::without_head(begin);
-    assert!(matches!(decoder.next_block(held(4), &mut Vec::new()), Ok(Event::NeedMore(5))));
+    assert!(matches!(decoder.decode(held(4), &mut Vec::new()), Ok(Event::NeedMore(5))));
     let mut copy = decoder;
     for decoder in [&mut decoder, &mut copy] {
         for number in 1..3 {
-            let block = decoder.next_block(held(22), &mut Vec::new());
+            let block = decoder.decode(held(22), &mut Vec::new());
             assert!(matches!(block, Ok(Event::Block(block)) if block.channel(0) == [5]));
             assert_eq!(decoder.position(), begin + 11 * number);
         }
-        assert!(matches!(decoder.next_block(held(22), &mut Vec::new()), Ok(Event::End)));
+        assert!(matches!(decoder.decode(held(22), &mut Vec::new()), Ok(Event::End)));
     }
     let mut far = Decoder::without_head(u64::MAX >> 1);
     let held = Held { bytes: &stream, position: u64::MAX >> 1, is_end: true };
-    assert!(matches!(far.next_block(held, &mut Vec::new()), Err(Error::Unsupported(_))));
+    assert!(matches!(far.decode(held, &mut Vec::new()), Err(Error::Unsupported(_))));
+}
+
+/// The head is told too, of which a picture isn't held. A fault in it is told each time, until `resync` goes to a frame.
+#[test]
+fn heads() {
+    let comments = bytes(COMMENTS);
+    let comment = block(4, &comments[4..]);
+    let picture = block(0x86, &[0xff; 100_000]);
+    let stream = stream_with(&[&comment, &picture]);
+    let info = streaminfo(&FlacReader::new(&stream[..]).unwrap().streaminfo());
+    let expected = [
+        Told::StreamInfo(info),
+        Told::VorbisComment(String::new(), vec![("X=Y".to_string(), 1)]),
+        Told::Block(0, vec![5]),
+        Told::End,
+    ];
+    for piece in [1, 7, 1460, usize::MAX >> 1] {
+        let told = Caller { stream: &stream, held: Vec::new(), start: 0, piece }.told(Decoder::new());
+        assert_eq!(without_ends(told), expected);
+    }
+    let mut decoder = Decoder::default();
+    let faulty = [open_head(), block(127, &[0; 34]), bytes(FRAME)].concat();
+    let held = Held { bytes: &faulty, position: 0, is_end: true };
+    assert!(matches!(decoder.decode(held, &mut Vec::new()), Ok(Event::StreamInfo(_))));
+    for _ in 0..2 {
+        let error = decoder.decode(held, &mut Vec::new()).err().unwrap();
+        assert_eq!(error, Error::FormatError("invalid metadata block type"));
+    }
+    let skipped = (faulty.len() - bytes(FRAME).len()) as u64 - decoder.position();
+    assert!(matches!(decoder.resync(held), Ok(Event::Resynced(count)) if count == skipped));
+    assert!(matches!(decoder.decode(held, &mut Vec::new()), Ok(Event::Block(_))));
+    assert!(matches!(decoder.decode(held, &mut Vec::new()), Ok(Event::End)));
 }

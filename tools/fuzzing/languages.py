@@ -331,11 +331,11 @@ def program_of(process: int) -> "subprocess.Popen[bytes]":
     )
 
 
-def by_crate(data: bytes, pieces: Pieces, first_frame: int) -> List[Events]:
+def by_crate(data: bytes, pieces: Pieces) -> List[Events]:
     """What FlacReader says, without positions, and Decoder."""
     program = program_of(os.getpid())
     assert program.stdin and program.stdout
-    numbers = [len(pieces), *pieces, first_frame, len(data)]
+    numbers = [len(pieces), *pieces, len(data)]
     program.stdin.write(struct.pack(f"<{len(numbers)}I", *numbers) + data)
     program.stdin.flush()
     found: List[Events] = [[]]
@@ -345,7 +345,7 @@ def by_crate(data: bytes, pieces: Pieces, first_frame: int) -> List[Events]:
             raise ChildProcessError("the example events ended")
         kind, *words = line.split()
         if kind == "end":
-            if len(found) == 2 or (found[0] and found[0][0][0] == "head"):
+            if len(found) == 2:
                 return found
             found.append([])
         elif kind == "block":
@@ -387,14 +387,13 @@ def difference(expected: Events, answer: Answer) -> Optional[str]:
     return None
 
 
-def answers_of(data: bytes, pieces: Pieces, info: Optional[_calls.Info]) -> Iterable[Answer]:
+def answers_of(data: bytes, pieces: Pieces) -> Iterable[Answer]:
     yield Answer("claxon_stream.h", by_stream(data, pieces))
     yield Answer("Flac", by_file(data, pieces))
     yield Answer("Feed", by_feed(data, pieces))
-    crate = by_crate(data, pieces, info.first_frame if info else 0)
-    yield Answer("FlacReader", crate[0], has_positions=False)
-    if info:
-        yield Answer("Decoder", crate[1])
+    reader, decoder = by_crate(data, pieces)
+    yield Answer("FlacReader", reader, has_positions=False)
+    yield Answer("Decoder", decoder)
 
 
 def compare(rng: Random, data: bytes) -> Tuple[List[str], List[str]]:
@@ -406,7 +405,7 @@ def compare(rng: Random, data: bytes) -> Tuple[List[str], List[str]]:
         expected, passes_over = by_calls(data, pieces, info)
         if not passes_over and in_memory(data, info) != expected:
             kinds.append("claxon_frames_next: another answer than of all bytes")
-    found = (difference(expected, answer) for answer in answers_of(data, pieces, info))
+    found = (difference(expected, answer) for answer in answers_of(data, pieces))
     kinds += [kind for kind in found if kind]
     outcomes = ["a head with a fault" if info is None else "a head"]
     outcomes += [event[0] for event in expected] + ["a header passed over"] * passes_over
