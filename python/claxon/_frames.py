@@ -24,6 +24,7 @@ class Frames:
         self.place = 0  # the position in the file of the frame that was tried last
         self._size = 0  # the largest number of samples of each channel in a frame
         self._capacity = 1  # a pointer to no samples would be null
+        self._address = 0  # of the samples
         self._lost_at: Optional[int] = None  # where `resync` began, as long as it finds no frame
         self._ahead: Optional[int] = None  # the length of the next frame, if it was decoded already
         self._error = ctypes.create_string_buffer(ERROR_SIZE)
@@ -128,24 +129,26 @@ class Frames:
         while True:
             if self.samples is None:
                 self.samples = array("i", bytes(4 * self._capacity))
-            status = self._call(self.samples.buffer_info()[0])
+                self._address = self.samples.buffer_info()[0]
+            status = self._call()
             if status != BUFFER_TOO_SMALL:
                 return status
             self.samples = None
             self._capacity = self.count()
 
-    def _call(self, samples: int) -> int:
-        window, held = self.window, self.window.held()
+    def _call(self) -> int:
+        window, at = self.window, self.window.at.value
+        held = min(window.end - at, MAX_FRAME_BYTES)
         frames, info, found = self._pointers
         decode = library.claxon_frames_next_planar if self.is_planar else library.claxon_frames_next
         status: int = decode(
             frames,
-            window.address + window.at.value,
+            window.address + at,
             held,
             self.place,
             window.has_ended or held == MAX_FRAME_BYTES,
             info,
-            samples,
+            self._address,
             self._capacity,
             found,
             self._error,

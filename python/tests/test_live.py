@@ -317,6 +317,26 @@ class LargeFrames(unittest.TestCase):
             file.limit = end
             self.assertEqual(next(blocks).planar.tolist(), samples)
 
+    def test_above_2_mib(self) -> None:
+        """Each sample takes as many bits as it is far from 0, twice."""
+        source = random.Random(8)
+        samples = [source.randrange(-256, 256) for _ in range(65535)]
+        folded = (2 * sample if sample >= 0 else -2 * sample - 1 for sample in samples)
+        # A fixed predictor of order 0, and one Rice code whose parameter is 0.
+        bits = "00010000" + 10 * "0" + "".join(number * "0" + "1" for number in folded)
+        long = frame(frame_header(65535, 0, rate_code=9), [bits])
+        self.assertGreater(len(long), 2 << 20)
+        content = head() + long + long
+        ends = [len(head()) + len(long), len(content)]
+        stream = Stream(content, ends, [samples, samples])
+        for piece in (100, 1460):
+            self.expect_fed(stream, piece)
+        file = Limited(content, 1460, ends[0])
+        blocks = claxon.Flac(file).blocks()
+        for end in ends:
+            file.limit = end
+            self.assertEqual(next(blocks).planar.tolist(), samples)
+
     def test_hostile(self) -> None:
         """The CRC is 0 at nearly each byte: the time is linear."""
         stream = stream_of_large_frames()
