@@ -5,7 +5,12 @@ use claxon::frame::FrameReader;
 use claxon::{Decoder, Error, Event, FlacReader, Held};
 use common::made::*;
 use common::*;
+use std::future::Future;
 use std::io::Cursor;
+use std::pin::Pin;
+use std::sync::atomic::{AtomicUsize, Ordering};
+use std::sync::Arc;
+use std::task::{Context, Poll, Wake, Waker};
 
 /// What a caller is told, but for `NeedMore`: and how many bytes of the stream were there.
 #[derive(Clone, Debug, PartialEq)]
@@ -211,4 +216,69 @@ fn heads() {
     assert!(matches!(decoder.resync(held), Ok(Event::Resynced(count)) if count == skipped));
     assert!(matches!(decoder.decode(held, &mut Vec::new()), Ok(Event::Block(_))));
     assert!(matches!(decoder.decode(held, &mut Vec::new()), Ok(Event::End)));
+}
+
+/// A socket: a read waits before each piece, and gives nothing at the end.
+struct Socket<'a> {
+    bytes: &'a [u8],
+    is_ready: bool,
+}
+
+impl Future for Socket<'_> {
+    type Output = Vec<u8>;
+
+    fn poll(mut self: Pin<&mut Self>, context: &mut Context<'_>) -> Poll<Vec<u8>> {
+        self.is_ready = !self.is_ready;
+        if !self.is_ready {
+            let (piece, rest) = self.bytes.split_at(self.bytes.len().min(100));
+            self.bytes = rest;
+            return Poll::Ready(piece.to_vec());
+        }
+        context.waker().wake_by_ref();
+        Poll::Pending
+    }
+}
+
+async fn samples_of(mut socket: Socket<'_>) -> claxon::Result<Vec<i32>> {
+    let (mut decoder, mut buffer, mut samples) = (Decoder::new(), Vec::new(), Vec::new());
+    let (mut bytes, mut position, mut is_end) = (Vec::new(), 0, false);
+    loop {
+        match decoder.decode(Held { bytes: &bytes, position, is_end }, &mut buffer)? {
+            Event::Block(block) => samples.extend(block.into_buffer()),
+            Event::NeedMore(_) => {
+                bytes.drain(..(decoder.position() - position) as usize);
+                position = decoder.position();
+                let piece = (&mut socket).await;
+                is_end = piece.is_empty();
+                bytes.extend(piece);
+            }
+            Event::End => return Ok(samples),
+            _ => {}
+        }
+    }
+}
+
+struct Thread(AtomicUsize);
+
+impl Wake for Thread {
+    fn wake(self: Arc<Self>) {
+        self.0.fetch_add(1, Ordering::Relaxed);
+    }
+}
+
+/// An async caller needs nothing but the decoder.
+#[test]
+fn an_async_caller() {
+    let made = Made::new(12, 300, 1);
+    let (stream, thread) = (made.stream(), Arc::new(Thread(AtomicUsize::new(0))));
+    let waker = Waker::from(thread.clone());
+    let mut samples = Box::pin(samples_of(Socket { bytes: &stream, is_ready: false }));
+    let found = loop {
+        if let Poll::Ready(found) = samples.as_mut().poll(&mut Context::from_waker(&waker)) {
+            break found.unwrap();
+        }
+    };
+    let expected: Vec<i32> = made.blocks.concat().into_iter().map(|byte| i32::from(byte as i8)).collect();
+    assert!(found == expected);
+    assert!(thread.0.load(Ordering::Relaxed) > stream.len() / 100);
 }
