@@ -7,6 +7,7 @@ import ctypes
 import functools
 import io
 import os
+import re
 import struct
 import subprocess
 import sys
@@ -412,8 +413,17 @@ def compare(rng: Random, data: bytes) -> Tuple[List[str], List[str]]:
     return kinds, outcomes
 
 
+def with_stray_byte(rng: Random, data: bytes) -> bytes:
+    """The stream with a byte before one of its sync codes, so that a fault shows within a frame."""
+    codes = [match.start() for match in re.finditer(rb"\xff[\xf8\xf9]", data)]
+    at = rng.choice(codes) if codes else len(data)
+    return data[:at] + rng.choice((b"\xff", b"\0")) + data[at:]
+
+
 def made(rng: Random, pick: Pick) -> bytes:
     """A stream: as for all decoders, or as for searches."""
     if rng.random() < 0.5:
-        return finding.made(rng, pick)
-    return mutation.make(rng, pick)[: finding.MAX_SIZE]
+        data = finding.made(rng, pick)
+    else:
+        data = mutation.make(rng, pick)[: finding.MAX_SIZE]
+    return with_stray_byte(rng, data) if rng.random() < 0.3 else data
