@@ -157,6 +157,18 @@ class Objects(unittest.TestCase):
         self.assertEqual(_calls.library.claxon_version(), int(declared))
         self.assertEqual(_calls.INTERFACE, int(declared) // 100)
 
+    def test_structs(self) -> None:
+        """They have the layout that the header asserts."""
+        header = (TOP / "c" / "claxon.h").read_text()
+        sizes = re.findall(r"sizeof\(struct claxon_(\w+)\) == (\d+)", header)
+        self.assertEqual(len(sizes), 8)
+        for name, size in sizes:
+            self.assertEqual(ctypes.sizeof(getattr(_calls, name.title())), int(size), name)
+        fields = re.findall(r"offsetof\(struct claxon_(\w+), (\w+)\) == (\d+)", header)
+        for name, field, offset in fields:
+            found = getattr(getattr(_calls, name.title()), field)
+            self.assertEqual(found.offset, int(offset), (name, field))
+
     def test_statuses(self) -> None:
         """Each status of the header is known, and each that is a fault has its class."""
         header = (TOP / "c" / "claxon.h").read_text()
