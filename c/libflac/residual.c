@@ -4,6 +4,9 @@
 
 #ifdef __SSE2__
 #include <emmintrin.h>
+#define HAS_VECTORS 1
+#else
+#define HAS_VECTORS 0 /* then it doesn't */
 #endif
 
 /* How many samples are predicted at once. */
@@ -41,7 +44,7 @@ static int copy_samples(int16_t *to, const FLAC__FrameHeader *header, const int3
 
 int residual_start(struct residual *residual, const FLAC__FrameHeader *header, const int32_t *samples, uint32_t channel,
                    unsigned wasted_bits) {
-    if (header->blocksize > RESIDUAL_MAX_SAMPLES || wasted_bits > 31) {
+    if (!HAS_VECTORS || header->blocksize > RESIDUAL_MAX_SAMPLES || wasted_bits > 31) {
         return 0;
     }
     memset(residual->samples, 0, FLAC__MAX_LPC_ORDER * sizeof residual->samples[0]);

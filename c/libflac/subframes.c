@@ -168,10 +168,10 @@ static void pass_samples(struct bits *bits, unsigned code, const FLAC__Frame *fr
     residual.order = code >= 32 ? code - 31 : code >= 8 ? code - 8 : 0;
     bits->at += (uint64_t)width * (code == 0 ? 1 : code == 1 ? header->blocksize : residual.order);
     if (code > 1) {
+        int is_known;
         read_predictor(bits, code, &residual);
-        pass_residual(bits, header->blocksize, residual.order,
-                      residual_fits(&residual) && residual_start(&residual, header, samples, channel, wasted_bits) ? &residual
-                                                                                                                   : NULL);
+        is_known = residual_fits(&residual) && residual_start(&residual, header, samples, channel, wasted_bits);
+        pass_residual(bits, header->blocksize, residual.order, is_known ? &residual : NULL);
     }
 }
 

@@ -2,12 +2,13 @@
  * read, and each call has to return: sanitizers see that. With -DFUZZED it is a target of libFuzzer. */
 #include "../decoder.h"
 
-/* Fills the subframes of bytes and samples that are alone in their memory. Of the header `numbers` draws what counts. */
+/* Fills the subframes of bytes and samples that are alone in their memory, or without samples where the block is large. Of the
+ * header `numbers` draws what counts. */
 static unsigned fill(const uint8_t *bytes, size_t length, uint32_t numbers) {
     static const uint32_t widths[8] = {0, 8, 12, 16, 20, 24, 32, 4};
     FLAC__Frame frame;
     uint8_t *alone = (uint8_t *)malloc(length > 0 ? length : 1);
-    size_t i, count = (size_t)(numbers >> 16) * ((numbers & 7) + 1);
+    size_t i, count = numbers >> 16 <= RESIDUAL_MAX_SAMPLES ? (size_t)(numbers >> 16) * ((numbers & 7) + 1) : 0;
     int32_t *samples = (int32_t *)malloc(count > 0 ? count * sizeof *samples : 1);
     unsigned channel, sum = 0;
     if (!alone || !samples) {

@@ -374,7 +374,8 @@ class Results:
         """Keeps what is known of these files now, all or nothing. A file that couldn't be read
         keeps the verdict that it has."""
         size = sum(row[1] or 0 for row in rows)
-        new, others = [], []
+        new: List[Tuple[Any, ...]] = []
+        others: List[Tuple[Any, ...]] = []
         for row in rows:
             file = found[row[0]]
             known = row + file[2:5] + (path_text(row[0]),)
