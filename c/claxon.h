@@ -32,7 +32,8 @@ enum claxon_status {
     CLAXON_OUT_OF_MEMORY = 4,    /* malloc failed */
     CLAXON_NO_MORE = 5,          /* no further block, no further tag, no such frame */
     CLAXON_BUFFER_TOO_SMALL = 6, /* the samples don't fit */
-    CLAXON_OVER_BUDGET = 7       /* a search stopped, as headers cost more than its budget */
+    CLAXON_OVER_BUDGET = 7,      /* a search stopped, as headers cost more than its budget */
+    CLAXON_NEED_MORE = 100       /* nothing can be said before more bytes are handed in */
 };
 
 /* Writes what a status means, as "out of memory": a text that ends with 0, truncated if it doesn't fit. 64 bytes are enough.
@@ -105,6 +106,47 @@ struct claxon_md5 {
     uint8_t buffer[64];
 };
 
+/* The head of a stream whose bytes are handed in: its marker and its metadata blocks. It may be copied. */
+struct claxon_head {
+    uint64_t position; /* of the first byte that is needed */
+    uint64_t begin;    /* where the marker or the metadata block begins that comes next, or is faulty or cut */
+    /* The next seven are for the calls alone. */
+    uint32_t next;
+    uint8_t is_last, type;
+    uint32_t length;
+    uint8_t is_metadata_only, has_comment_option, has_info, has_comment;
+    uint32_t most;
+    size_t needed; /* after NEED_MORE how many bytes are needed at least, from `position` on; else 0 */
+    uint32_t part; /* which part was read last: one of enum claxon_part */
+};
+
+/* The parts of a head. */
+enum claxon_part { CLAXON_MARKER = 0, CLAXON_METADATA_HEADER = 1, CLAXON_METADATA_CONTENT = 2 };
+
+/* The frames of a stream whose bytes are handed in. It may be copied. */
+struct claxon_frames {
+    uint64_t position; /* of the first byte that is needed */
+    /* The next six are for the calls alone. */
+    size_t tried, summed;
+    uint16_t crc;
+    uint8_t is_near;
+    uint64_t wasted, counted;
+    size_t needed; /* after NEED_MORE how many bytes are needed at least, from `position` on; else 0 */
+};
+
+/* A search for the next frame of a stream whose bytes are handed in. It may be copied. */
+struct claxon_search {
+    uint64_t position; /* of the first byte that is needed */
+    /* The next eight are for the calls alone. */
+    size_t tried, summed;
+    uint16_t crc;
+    uint8_t is_near;
+    uint64_t wasted_by_tries, counted_by_tries;
+    uint64_t wasted, counted;
+    uint8_t has_passed_over; /* 1 if a header was passed over untried, as very much work had led to no frame; else 0 */
+    size_t needed;           /* after NEED_MORE how many bytes are needed at least, from `position` on; else 0 */
+};
+
 /* The layout that the library has: that of Linux on x86-64 and 64-bit ARM, which it is built for. */
 #ifdef CLAXON_HAS_STATIC_ASSERT
 static_assert(sizeof(struct claxon_info) == 64 && offsetof(struct claxon_info, first_frame) == 0 &&
@@ -129,6 +171,28 @@ static_assert(sizeof(struct claxon_block) == 24 && offsetof(struct claxon_block,
 static_assert(sizeof(struct claxon_md5) == 88 && offsetof(struct claxon_md5, state) == 0 &&
                   offsetof(struct claxon_md5, length) == 16 && offsetof(struct claxon_md5, buffer) == 24,
               "claxon is for Linux on x86-64 and 64-bit ARM: struct claxon_md5 has another layout here");
+static_assert(sizeof(struct claxon_head) == 56 && offsetof(struct claxon_head, position) == 0 &&
+                  offsetof(struct claxon_head, begin) == 8 && offsetof(struct claxon_head, next) == 16 &&
+                  offsetof(struct claxon_head, is_last) == 20 && offsetof(struct claxon_head, type) == 21 &&
+                  offsetof(struct claxon_head, length) == 24 && offsetof(struct claxon_head, is_metadata_only) == 28 &&
+                  offsetof(struct claxon_head, has_comment_option) == 29 && offsetof(struct claxon_head, has_info) == 30 &&
+                  offsetof(struct claxon_head, has_comment) == 31 && offsetof(struct claxon_head, most) == 32 &&
+                  offsetof(struct claxon_head, needed) == 40 && offsetof(struct claxon_head, part) == 48,
+              "claxon is for Linux on x86-64 and 64-bit ARM: struct claxon_head has another layout here");
+static_assert(sizeof(struct claxon_frames) == 56 && offsetof(struct claxon_frames, position) == 0 &&
+                  offsetof(struct claxon_frames, tried) == 8 && offsetof(struct claxon_frames, summed) == 16 &&
+                  offsetof(struct claxon_frames, crc) == 24 && offsetof(struct claxon_frames, is_near) == 26 &&
+                  offsetof(struct claxon_frames, wasted) == 32 && offsetof(struct claxon_frames, counted) == 40 &&
+                  offsetof(struct claxon_frames, needed) == 48,
+              "claxon is for Linux on x86-64 and 64-bit ARM: struct claxon_frames has another layout here");
+static_assert(sizeof(struct claxon_search) == 80 && offsetof(struct claxon_search, position) == 0 &&
+                  offsetof(struct claxon_search, tried) == 8 && offsetof(struct claxon_search, summed) == 16 &&
+                  offsetof(struct claxon_search, crc) == 24 && offsetof(struct claxon_search, is_near) == 26 &&
+                  offsetof(struct claxon_search, wasted_by_tries) == 32 &&
+                  offsetof(struct claxon_search, counted_by_tries) == 40 && offsetof(struct claxon_search, wasted) == 48 &&
+                  offsetof(struct claxon_search, counted) == 56 && offsetof(struct claxon_search, has_passed_over) == 64 &&
+                  offsetof(struct claxon_search, needed) == 72,
+              "claxon is for Linux on x86-64 and 64-bit ARM: struct claxon_search has another layout here");
 #endif
 
 /* Reads the head that the bytes begin with. With CLAXON_OK, `info` is filled.
@@ -230,6 +294,57 @@ uint32_t claxon_seek(const uint8_t *bytes, size_t length, const struct claxon_in
  * With any other status nothing is changed. */
 uint32_t claxon_seek_block(const uint8_t *bytes, size_t length, const struct claxon_info *info, uint64_t sample,
                            uint64_t budget, size_t *at, int32_t *samples, size_t capacity, struct claxon_block *block);
+
+/* Streams in pieces. The caller holds the bytes, and hands in those that he has: `length` bytes at the position `at` of the
+ * stream, and `is_end` 1 if the stream ends with them, else 0. Bytes before `position` of the struct aren't needed any more.
+ * NEED_MORE: `needed` bytes at least from `position` on are needed, or all up to the end. However a stream is cut into what is
+ * handed in, the other answers are the same, one by one. Positions may be counted from anywhere, and are below 2^63: where
+ * at + length isn't, the status is UNSUPPORTED and nothing is changed but `error`. OUT_OF_MEMORY: the call may be repeated. */
+
+/* Begins with a head at this position. */
+void claxon_head_start(struct claxon_head *head, uint64_t position);
+
+/* Reads the next part of the head. With CLAXON_OK, head->part says which: the marker; a metadata block's header, and `metadata`
+ * is filled; or its content, and of a streaminfo block `info` is filled, of Vorbis comments info->tags. Streaminfo, application
+ * and Vorbis comment blocks are needed as a whole, and then stand in `bytes`, from metadata->content - at on. Of another
+ * content just the last byte is needed: `position` is there after its header. NO_MORE: the head is whole; `position` and
+ * info->first_frame are that of the first frame. FORMAT_ERROR, UNSUPPORTED: no head is there; `error` gets a text. INPUT_ENDS:
+ * the stream ends within it. Both are of what begins at `begin`. */
+uint32_t claxon_head_next(struct claxon_head *head, const uint8_t *bytes, size_t length, uint64_t at, uint32_t is_end,
+                          struct claxon_info *info, struct claxon_metadata *metadata, char *error, size_t error_size);
+
+/* Begins with a frame at this position. */
+void claxon_frames_start(struct claxon_frames *frames, uint64_t position);
+
+/* Goes on from another position, as after damage. Work that led to no frame stays counted, so that the time is linear. */
+void claxon_frames_go_on(struct claxon_frames *frames, uint64_t position);
+
+/* Decodes the next frame. With CLAXON_OK, `block` is filled, channels * duration samples are written, interleaved, and
+ * `position` is moved after the frame. NEED_MORE: no whole frame is there; or very many tries were in vain, to which no stream
+ * of an encoder leads. BUFFER_TOO_SMALL: the samples of the frame don't fit; `block` is filled, and nothing else is changed.
+ * FORMAT_ERROR, UNSUPPORTED: no frame begins there; `position` is moved after what is wrong. INPUT_ENDS: the stream ends within
+ * the frame. NO_MORE: it ends after the last frame, or fewer than two bytes later. `position` is at its end then. FORMAT_ERROR,
+ * UNSUPPORTED, INPUT_ENDS, OUT_OF_MEMORY: `error` gets a text. */
+uint32_t claxon_frames_next(struct claxon_frames *frames, const uint8_t *bytes, size_t length, uint64_t at, uint32_t is_end,
+                            const struct claxon_info *info, int32_t *samples, size_t capacity, struct claxon_block *block,
+                            char *error, size_t error_size);
+
+/* As claxon_frames_next, with the samples of one channel after those of another. */
+uint32_t claxon_frames_next_planar(struct claxon_frames *frames, const uint8_t *bytes, size_t length, uint64_t at,
+                                   uint32_t is_end, const struct claxon_info *info, int32_t *samples, size_t capacity,
+                                   struct claxon_block *block, char *error, size_t error_size);
+
+/* Begins a search at this position. */
+void claxon_search_start(struct claxon_search *search, uint64_t position);
+
+/* Goes on from another position, as after frames that were decoded. What was charged stays, so that the time is linear. */
+void claxon_search_go_on(struct claxon_search *search, uint64_t position);
+
+/* Finds the next frame of the stream, as claxon_find_frame does. With CLAXON_OK, *found is its position, `block` is filled from
+ * its header, and `position` is moved after the frame; claxon_frames_go_on goes to it. NO_MORE: there is none, but for what
+ * has_passed_over says; `position` is at the end of the stream. */
+uint32_t claxon_search_next(struct claxon_search *search, const uint8_t *bytes, size_t length, uint64_t at, uint32_t is_end,
+                            const struct claxon_info *info, uint64_t *found, struct claxon_block *block);
 
 #ifdef __cplusplus
 }

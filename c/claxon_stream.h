@@ -1,5 +1,6 @@
-/* claxon_stream.h: reads a FLAC stream piece by piece, by the calls of claxon.h. It is all code there is: include it, and
- * link claxon alone. Its code is tested, not proved. README.md in this folder has examples.
+/* claxon_stream.h: reads a FLAC stream piece by piece: a loop over claxon_head_next, claxon_frames_next and claxon_search_next
+ * of claxon.h, which are proved, with the memory and the callbacks that they leave to the caller. It is all code there is:
+ * include it, and link claxon alone. README.md in this folder has examples.
  *
  *     struct claxon_stream stream;
  *     claxon_stream_init(&stream, claxon_stream_fread, file);
@@ -14,14 +15,16 @@
  *
  * A block is given when the last byte of its frame was read, whatever the size of the frame and of the pieces: nothing is read
  * while a block can be given of the bytes that are held. Where the CRC of a frame is wrong, and in a stream that is made to
- * cost time, up to as many bytes again may be read. So may they after a frame of more than 100 KB, where no frame follows it.
+ * cost time, up to as many bytes again may be read.
  *
- * It holds 64 KiB of the stream, and twice as much where a frame doesn't fit, up to CLAXON_MAX_FRAME_BYTES; what is handed
- * in at once; the samples of one block; and the Vorbis comments. Any other metadata block is passed over without being held.
+ * It holds 64 KiB of the stream, and twice as much where a frame, an application block or the Vorbis comments don't fit, up to
+ * CLAXON_MAX_FRAME_BYTES; what is handed in at once; the samples of one block; and the Vorbis comments. Any other metadata
+ * block is passed over without being held.
  *
- * Calls return an enum claxon_status, CLAXON_NEED_MORE or CLAXON_READ_FAILED. OUT_OF_MEMORY between frames: the call may be
- * repeated. INPUT_ENDS: the bytes end within the head or a frame. BUFFER_TOO_SMALL is never returned. Streams are independent
- * of one another. */
+ * Calls return an enum claxon_status or CLAXON_READ_FAILED. NEED_MORE: nothing is lost, and the call is to be repeated, after
+ * claxon_stream_feed or claxon_stream_feed_end where bytes are handed in, and later where the callback returned
+ * CLAXON_NOT_NOW. OUT_OF_MEMORY between frames: the call may be repeated. INPUT_ENDS: the bytes end within the head or a frame.
+ * BUFFER_TOO_SMALL is never returned. Streams are independent of one another. */
 #ifndef CLAXON_STREAM_H
 #define CLAXON_STREAM_H
 
@@ -56,11 +59,6 @@ typedef size_t claxon_stream_read(void *source, uint8_t *bytes, size_t length);
  * reading there gives the end. Where the end isn't known, SEEK_END may fail. */
 typedef int64_t claxon_stream_seek_to(void *source, int64_t offset, int whence);
 
-/* What a call returns where the bytes that are there don't suffice: nothing is lost, and the call is to be repeated, after
- * claxon_stream_feed or claxon_stream_feed_end where bytes are handed in, and later where the callback returned CLAXON_NOT_NOW.
- * It is far from the numbers of enum claxon_status. */
-#define CLAXON_NEED_MORE 100
-
 /* What a call returns where a callback failed, of the source and not of the stream: `error` is "reading failed" or "seeking
  * failed". A later call returns it again, once it has given what it can of the bytes that are held, and calls no callback but
  * for a seek. After a seek that has succeeded the stream goes on from there. */
@@ -83,24 +81,22 @@ struct claxon_stream {
     int64_t origin;         /* where the stream begins in its source, */
     uint64_t source_length; /*     and how many bytes there are from there, or UINT64_MAX, if the source was located */
     size_t at_once;         /* how many bytes are read at most */
-    uint8_t *window;
+    uint8_t *window;        /* which has the bytes from `position` on */
     size_t window_size, start, held;
-    size_t trial, tried, summed; /* bytes of the frame: in the last try, in vain, and those whose CRC is `crc` */
-    size_t longest;              /* as many of them as an encoder may write, where the header is known */
-    size_t ready;                /* the length of the frame that is decoded already, or 0 */
     size_t samples_size;
-    uint64_t wasted, in_vain; /* work of resync, and of tries where the CRC is 0, that led to no frame */
-    uint8_t *made_head;       /* as far as it was read: `made_length` bytes of content, and space for `made_size` */
-    size_t made_length, made_size;
-    uint8_t *kept_head;
-    const uint8_t *content;
-    size_t content_left;
-    size_t head_length;
+    size_t ready;        /* the length of the frame at `position`, which is decoded already, or 0 */
+    uint64_t wasted;     /* work of a seek that led to no frame */
+    uint64_t content;    /* the position of what is read next of the content of a metadata block, */
+    size_t content_left; /*     how much of it is left, */
+    const uint8_t *kept; /*     and where it is, if it is kept */
+    uint8_t *kept_comments;
+    struct claxon_head head;
+    struct claxon_frames frames;
+    struct claxon_search search;
     struct claxon_metadata metadata;
-    uint32_t metadata_blocks, head_status;
-    uint16_t crc;
-    uint8_t head[58];
-    uint8_t is_last, in_block, in_frames, is_planar, is_refused, is_located, has_ended, has_failed, has_skipped;
+    uint32_t head_status;
+    uint8_t streaminfo[34];
+    uint8_t in_frames, is_planar, is_refused, is_located, has_ended, has_failed, has_skipped;
 };
 
 /* Begins a stream. Nothing is read, and no memory is taken yet. `source` is handed to `read`. */
@@ -176,34 +172,17 @@ CLAXON_STATIC size_t claxon_stream_read_fd(void *fd, uint8_t *bytes, size_t leng
 /* The callbacks that seek for these two. A pipe or a socket can't be sought. */
 CLAXON_STATIC int64_t claxon_stream_fseek(void *file, int64_t offset, int whence);
 CLAXON_STATIC int64_t claxon_stream_seek_fd(void *fd, int64_t offset, int whence);
-
 /* The code of these calls. */
 
-/* How many bytes are read at once where no more are needed. */
+/* How many bytes are read at once. */
 #define CLAXON_STREAM_STEP 65536
 
-/* The metadata blocks of a head, and the length of an application block, as claxon_open limits them. */
-#define CLAXON_STREAM_MAX_BLOCKS 65536
-#define CLAXON_STREAM_MAX_APPLICATION (10 * 1024 * 1024)
-
-/* How much work of resync may lead to no frame, in bytes and samples, before it passes over bytes that it doesn't search; how
- * much of it a byte that is passed makes good; what a call costs in any case; and what a header costs that is none. */
+/* How much work may lead to no frame, in bytes and samples, before bytes are passed over unsearched; how much of it a byte that
+ * is passed makes good; what a call costs in any case; and what a header costs that is none. */
 #define CLAXON_STREAM_MAX_WASTED (2 * (uint64_t)CLAXON_MAX_FRAME_BYTES)
 #define CLAXON_STREAM_WASTED_OF_A_BYTE 4
 #define CLAXON_STREAM_WASTED_BY_A_CALL 64
 #define CLAXON_STREAM_WASTED_BY_A_SYNC_CODE 16
-
-/* How much work of tries where the CRC is 0 may lead to no block, in bytes and samples, before such tries are left out: all of
- * them, and those after which no frame seems to begin. How much of it a read makes good, and each byte that was read. And how
- * many bytes an encoder may write for a sample, but for CLAXON_STREAM_STEP more.
- * By chance the CRC is 0 at one place of 65536. So byte by byte a frame of L bytes and S samples takes (L / 2 + S) / 65536 for
- * each read, which is 24 for eight channels of 65535 samples of 32 bits. In larger pieces the bytes after such a place mostly
- * show that no frame begins there. */
-#define CLAXON_STREAM_MAX_IN_VAIN (4 * (uint64_t)CLAXON_MAX_FRAME_BYTES)
-#define CLAXON_STREAM_MAX_UNLIKELY (2 * (uint64_t)CLAXON_MAX_FRAME_BYTES)
-#define CLAXON_STREAM_MADE_GOOD_BY_A_READ 28
-#define CLAXON_STREAM_MADE_GOOD_BY_A_BYTE 2
-#define CLAXON_STREAM_BYTES_OF_A_SAMPLE 4
 
 /* What has_failed says. */
 #define CLAXON_STREAM_READ_FAILED 1
@@ -216,32 +195,23 @@ CLAXON_STATIC void claxon_stream_init(struct claxon_stream *stream, claxon_strea
     stream->comments_length = sizeof no_comments;
     stream->read = read;
     stream->source = source;
-    stream->at_once = SIZE_MAX;
-    stream->longest = CLAXON_MAX_FRAME_BYTES;
-    memcpy(stream->head, "fLaC", 4);
-    stream->head_length = 4;
+    stream->at_once = CLAXON_STREAM_STEP;
+    claxon_head_start(&stream->head, 0);
+    claxon_frames_start(&stream->frames, 0);
+    claxon_search_start(&stream->search, 0);
 }
 
 CLAXON_STATIC void claxon_stream_init_push(struct claxon_stream *stream) {
     claxon_stream_init(stream, NULL, NULL);
 }
 
-/* Forgets the head that is made for claxon_open. */
-CLAXON_STATIC void claxon_stream_drop_made_head(struct claxon_stream *stream) {
-    free(stream->made_head);
-    stream->made_head = NULL;
-    stream->made_length = 0;
-    stream->made_size = 0;
-}
-
 CLAXON_STATIC void claxon_stream_free(struct claxon_stream *stream) {
-    claxon_stream_drop_made_head(stream);
     free(stream->window);
     free(stream->samples);
-    free(stream->kept_head);
+    free(stream->kept_comments);
     stream->window = NULL;
     stream->samples = NULL;
-    stream->kept_head = NULL;
+    stream->kept_comments = NULL;
 }
 
 /* Whether a read that has failed with this number failed just now. */
@@ -304,15 +274,28 @@ CLAXON_STATIC uint32_t claxon_stream_read_failed(struct claxon_stream *stream) {
     return claxon_stream_fault(stream, CLAXON_READ_FAILED, is_seek ? "seeking failed" : "reading failed");
 }
 
-CLAXON_STATIC uint64_t claxon_stream_less(uint64_t wasted, uint64_t made_good) {
-    return made_good < wasted ? wasted - made_good : 0;
+/* A status, but that reading has failed where it says that the stream ends. */
+CLAXON_STATIC uint32_t claxon_stream_unless_failed(struct claxon_stream *stream, uint32_t status) {
+    int is_end = status == CLAXON_NO_MORE || status == CLAXON_INPUT_ENDS;
+    return is_end && stream->has_failed ? claxon_stream_read_failed(stream) : status;
 }
 
-/* Notes that so many bytes were read at once. */
-CLAXON_STATIC void claxon_stream_note_read(struct claxon_stream *stream, size_t count) {
-    uint64_t made_good = CLAXON_STREAM_MADE_GOOD_BY_A_READ + CLAXON_STREAM_MADE_GOOD_BY_A_BYTE * (uint64_t)count;
-    stream->held += count;
-    stream->in_vain = claxon_stream_less(stream->in_vain, made_good);
+/* The bytes from `position` on. */
+CLAXON_STATIC const uint8_t *claxon_stream_bytes(const struct claxon_stream *stream) {
+    static const uint8_t none[1] = {0};
+    return stream->window ? stream->window + stream->start : none;
+}
+
+/* Passes over so many of the bytes that are held, or all. */
+CLAXON_STATIC void claxon_stream_pass(struct claxon_stream *stream, uint64_t most) {
+    size_t count = most < stream->held ? (size_t)most : stream->held;
+    uint64_t good = CLAXON_STREAM_WASTED_OF_A_BYTE * (uint64_t)count;
+    stream->start += count;
+    stream->held -= count;
+    stream->position += count;
+    stream->wasted -= good < stream->wasted ? good : stream->wasted;
+    stream->is_refused = 0;
+    stream->ready = 0;
 }
 
 /* Moves the bytes that are held to the front of a window of this size, a new one where it is larger. */
@@ -322,9 +305,7 @@ CLAXON_STATIC uint32_t claxon_stream_resize(struct claxon_stream *stream, size_t
         if (!window) {
             return claxon_stream_out_of_memory(stream);
         }
-        if (stream->held > 0) {
-            memcpy(window, stream->window + stream->start, stream->held);
-        }
+        memcpy(window, claxon_stream_bytes(stream), stream->held);
         free(stream->window);
         stream->window = window;
         stream->window_size = size;
@@ -340,16 +321,14 @@ CLAXON_STATIC uint32_t claxon_stream_resize(struct claxon_stream *stream, size_t
 CLAXON_STATIC uint32_t claxon_stream_read_more(struct claxon_stream *stream) {
     size_t size = stream->window_size < CLAXON_STREAM_STEP ? CLAXON_STREAM_STEP : stream->window_size;
     size_t length, got;
-    uint32_t status;
     if (!stream->read) {
         return claxon_stream_no_fault(stream, CLAXON_NEED_MORE);
     }
     if (stream->held == size) {
         size = size < CLAXON_MAX_FRAME_BYTES / 2 ? 2 * size : CLAXON_MAX_FRAME_BYTES;
     }
-    status = claxon_stream_resize(stream, size);
-    if (status != CLAXON_OK) {
-        return status;
+    if (claxon_stream_resize(stream, size) != CLAXON_OK) {
+        return CLAXON_OUT_OF_MEMORY;
     }
     length = size - stream->held < stream->at_once ? size - stream->held : stream->at_once;
     got = stream->read(stream->source, stream->window + stream->held, length);
@@ -358,9 +337,7 @@ CLAXON_STATIC uint32_t claxon_stream_read_more(struct claxon_stream *stream) {
     }
     stream->has_failed = got > length ? CLAXON_STREAM_READ_FAILED : 0;
     stream->has_ended = got == 0 || got > length;
-    if (!stream->has_ended) {
-        claxon_stream_note_read(stream, got);
-    }
+    stream->held += stream->has_ended ? 0 : got;
     return CLAXON_OK;
 }
 
@@ -395,7 +372,7 @@ CLAXON_STATIC uint32_t claxon_stream_feed(struct claxon_stream *stream, const ui
     uint32_t status = length > 0 ? claxon_stream_make_room(stream, length) : (uint32_t)CLAXON_OK;
     if (status == CLAXON_OK && length > 0) {
         memcpy(stream->window + stream->start + stream->held, bytes, length);
-        claxon_stream_note_read(stream, length);
+        stream->held += length;
     }
     return status;
 }
@@ -404,68 +381,27 @@ CLAXON_STATIC void claxon_stream_feed_end(struct claxon_stream *stream) {
     stream->has_ended = 1;
 }
 
-/* Forgets what is known of a frame at the start of the window. */
-CLAXON_STATIC void claxon_stream_begin_frame(struct claxon_stream *stream) {
-    stream->tried = 0;
-    stream->summed = 0;
-    stream->longest = CLAXON_MAX_FRAME_BYTES;
-    stream->crc = 0;
-}
-
-/* Passes over so many of the bytes that are held. */
-CLAXON_STATIC void claxon_stream_pass(struct claxon_stream *stream, size_t count) {
-    stream->wasted = claxon_stream_less(stream->wasted, CLAXON_STREAM_WASTED_OF_A_BYTE * (uint64_t)count);
-    stream->start += count;
-    stream->held -= count;
-    stream->position += count;
-    stream->is_refused = 0;
-    stream->ready = 0;
-    claxon_stream_begin_frame(stream);
-}
-
-/* The status and the text of a head that ends too early. */
-CLAXON_STATIC uint32_t claxon_stream_head_ends(struct claxon_stream *stream) {
-    struct claxon_info info;
-    if (stream->has_failed) {
-        return claxon_stream_read_failed(stream);
-    }
-    return claxon_open(stream->head, 4, &info, stream->error, sizeof stream->error);
-}
-
-CLAXON_STATIC uint32_t claxon_stream_marker(struct claxon_stream *stream) {
-    struct claxon_info info;
-    uint32_t status = claxon_stream_hold(stream, 4);
-    if (status != CLAXON_OK) {
-        return status;
-    }
-    if (stream->held < 4) {
-        return claxon_stream_head_ends(stream);
-    }
-    status = claxon_open(stream->window + stream->start, 4, &info, stream->error, sizeof stream->error);
-    if (status != CLAXON_INPUT_ENDS) {
-        return status;
-    }
-    claxon_stream_pass(stream, 4);
-    return CLAXON_OK;
-}
+/* The head. */
 
 CLAXON_STATIC size_t claxon_stream_content(struct claxon_stream *stream, uint8_t *bytes, size_t length) {
     size_t done = 0;
-    if (length > stream->content_left) {
-        length = stream->content_left;
-    }
+    length = length < stream->content_left ? length : stream->content_left;
     while (done < length) {
         size_t count = length - done;
-        if (stream->content) {
-            memcpy(bytes + done, stream->content, count);
-            stream->content += count;
+        if (stream->kept) {
+            memcpy(bytes + done, stream->kept, count);
+            stream->kept += count;
         } else {
-            if (claxon_stream_hold(stream, 1) != CLAXON_OK || stream->held == 0) {
+            size_t at = (size_t)(stream->content - stream->position);
+            uint64_t needed;
+            if (claxon_stream_hold(stream, at + 1) != CLAXON_OK || stream->held <= at) {
                 break;
             }
-            count = count < stream->held ? count : stream->held;
-            memcpy(bytes + done, stream->window + stream->start, count);
-            claxon_stream_pass(stream, count);
+            count = count < stream->held - at ? count : stream->held - at;
+            memcpy(bytes + done, claxon_stream_bytes(stream) + at, count);
+            stream->content += count;
+            needed = stream->content < stream->head.position ? stream->content : stream->head.position;
+            claxon_stream_pass(stream, needed - stream->position);
         }
         stream->content_left -= count;
         done += count;
@@ -473,194 +409,79 @@ CLAXON_STATIC size_t claxon_stream_content(struct claxon_stream *stream, uint8_t
     return done;
 }
 
-/* Passes over what is left of the content of a metadata block. */
-CLAXON_STATIC uint32_t claxon_stream_skip_content(struct claxon_stream *stream) {
-    while (stream->content_left > 0 && !stream->content) {
-        size_t count;
-        uint32_t status = claxon_stream_hold(stream, 1);
-        if (status != CLAXON_OK) {
-            return status;
-        }
-        if (stream->held == 0) {
-            return claxon_stream_head_ends(stream);
-        }
-        count = stream->content_left < stream->held ? stream->content_left : stream->held;
-        claxon_stream_pass(stream, count);
-        stream->content_left -= count;
-    }
-    stream->content = NULL;
-    stream->content_left = 0;
-    return CLAXON_OK;
-}
-
-/* The header of the next metadata block. */
-CLAXON_STATIC uint32_t claxon_stream_metadata_header(struct claxon_stream *stream, struct claxon_metadata *metadata) {
-    size_t at = 0;
-    uint32_t status = stream->position == 0 ? claxon_stream_marker(stream) : claxon_stream_skip_content(stream);
-    if (status != CLAXON_OK) {
-        return status;
-    }
-    if (stream->is_last) {
-        return CLAXON_NO_MORE;
-    }
-    if (stream->metadata_blocks == CLAXON_STREAM_MAX_BLOCKS) {
-        return claxon_stream_fault(stream, CLAXON_UNSUPPORTED, "more than 65536 metadata blocks are not supported");
-    }
-    status = claxon_stream_hold(stream, 4);
-    if (status != CLAXON_OK) {
-        return status;
-    }
-    if (claxon_next_metadata(stream->window + stream->start, stream->held, &at, metadata) != CLAXON_OK) {
-        return claxon_stream_head_ends(stream);
-    }
-    claxon_stream_pass(stream, 4);
-    metadata->content = (size_t)stream->position;
-    stream->content_left = metadata->length;
-    stream->is_last = metadata->is_last;
-    stream->metadata_blocks++;
-    return CLAXON_OK;
-}
-
-/* Keeps a streaminfo block without a fault, or Vorbis comments, which the head that was made for claxon_open ends with. */
-CLAXON_STATIC void claxon_stream_keep(struct claxon_stream *stream, const struct claxon_info *info) {
-    static const uint8_t empty[12] = {CLAXON_VORBIS_COMMENT, 0, 0, 8, 0, 0, 0, 0, 0, 0, 0, 0};
+/* Keeps the content that was read: a streaminfo, or Vorbis comments. */
+CLAXON_STATIC uint32_t claxon_stream_keep(struct claxon_stream *stream) {
+    size_t length = stream->metadata.length;
     if (stream->metadata.type == CLAXON_STREAMINFO) {
-        stream->info = *info;
-        stream->info.first_frame = 0;
-        memcpy(stream->head + 4, stream->made_head + 4, 38);
-        stream->head[4] = CLAXON_STREAMINFO;
-        stream->content = stream->head + 8;
-        stream->head_length += 38;
+        memcpy(stream->streaminfo, claxon_stream_bytes(stream), length);
+        stream->kept = stream->streaminfo;
     } else {
-        stream->info.tags = info->tags;
-        stream->kept_head = stream->made_head;
-        stream->made_head = NULL;
-        stream->comments = stream->kept_head + stream->head_length + 4;
-        stream->comments_length = stream->metadata.length;
-        stream->content = stream->comments;
-        memcpy(stream->head + stream->head_length, empty, sizeof empty);
-        stream->head_length += sizeof empty;
+        stream->kept_comments = (uint8_t *)malloc(length);
+        if (!stream->kept_comments) {
+            return claxon_stream_out_of_memory(stream);
+        }
+        memcpy(stream->kept_comments, claxon_stream_bytes(stream), length);
+        stream->comments = stream->kept = stream->kept_comments;
+        stream->comments_length = length;
     }
-    stream->content_left = stream->metadata.length;
-}
-
-/* Makes space for more of the content in the head that is made for claxon_open, where all of it is used. */
-CLAXON_STATIC uint32_t claxon_stream_grow_made_head(struct claxon_stream *stream) {
-    size_t size = stream->made_size, length = stream->metadata.length;
-    uint8_t *grown;
-    if (stream->made_head && stream->made_length < size) {
-        return CLAXON_OK;
-    }
-    size = length - size < size + 1024 ? length : 2 * size + 1024;
-    grown = (uint8_t *)realloc(stream->made_head, stream->head_length + 4 + size);
-    if (!grown) {
-        return claxon_stream_out_of_memory(stream);
-    }
-    stream->made_head = grown;
-    stream->made_size = size;
+    stream->content_left = length;
     return CLAXON_OK;
 }
 
-/* Reads the content of a block that claxon_open looks into, after the head that is made for it. */
-CLAXON_STATIC uint32_t claxon_stream_make_head(struct claxon_stream *stream) {
-    size_t before = stream->head_length + 4, got, space;
+/* Reads the next part of the head, and the bytes that it takes. */
+CLAXON_STATIC uint32_t claxon_stream_next_part(struct claxon_stream *stream) {
+    uint32_t status;
     do {
-        uint32_t status = claxon_stream_grow_made_head(stream);
+        claxon_stream_pass(stream, stream->head.position - stream->position);
+        status = claxon_head_next(&stream->head, claxon_stream_bytes(stream), stream->held, stream->position, stream->has_ended,
+                                  &stream->info, &stream->metadata, stream->error, sizeof stream->error);
+        if (status != CLAXON_NEED_MORE) {
+            return claxon_stream_unless_failed(stream, status);
+        }
+        status = claxon_stream_read_more(stream);
+    } while (status == CLAXON_OK);
+    return status;
+}
+
+/* Reads up to the header of the next metadata block, or to the end of its content where that is kept. */
+CLAXON_STATIC uint32_t claxon_stream_next_shown(struct claxon_stream *stream) {
+    for (;;) {
+        uint32_t status = claxon_stream_next_part(stream);
+        int is_kept = stream->metadata.type == CLAXON_STREAMINFO || stream->metadata.type == CLAXON_VORBIS_COMMENT;
         if (status != CLAXON_OK) {
             return status;
         }
-        space = stream->made_size - stream->made_length;
-        got = claxon_stream_content(stream, stream->made_head + before + stream->made_length, space);
-        stream->made_length += got;
-    } while (got == space && stream->made_length < stream->metadata.length);
-    if (stream->made_length < stream->metadata.length && !stream->has_ended) {
-        return CLAXON_NEED_MORE;
+        if (stream->head.part == CLAXON_METADATA_CONTENT && is_kept) {
+            return claxon_stream_keep(stream);
+        }
+        if (stream->head.part == CLAXON_METADATA_HEADER && !is_kept) {
+            stream->content = stream->metadata.content;
+            stream->content_left = stream->metadata.length;
+            return status;
+        }
     }
-    memcpy(stream->made_head, stream->head, before);
-    return CLAXON_OK;
-}
-
-/* Asks claxon_open for the head that ends with the block. */
-CLAXON_STATIC uint32_t claxon_stream_try_content(struct claxon_stream *stream) {
-    struct claxon_info info;
-    uint32_t status = claxon_stream_make_head(stream);
-    if (status == CLAXON_NEED_MORE) {
-        return status;
-    }
-    if (status == CLAXON_OK) {
-        status = claxon_open(stream->made_head, stream->head_length + 4 + stream->made_length, &info, stream->error,
-                             sizeof stream->error);
-    }
-    if (status == CLAXON_OK) {
-        claxon_stream_keep(stream, &info);
-    }
-    claxon_stream_drop_made_head(stream);
-    return status == CLAXON_INPUT_ENDS ? claxon_stream_head_ends(stream) : status;
-}
-
-/* Finds what is wrong with a block's header by claxon_open: of a head that is made of the marker, the streaminfo block, an
- * empty block for the Vorbis comments, as far as they were there, and this block as the last one. */
-CLAXON_STATIC uint32_t claxon_stream_try_header(struct claxon_stream *stream) {
-    struct claxon_info info;
-    uint8_t *header = stream->head + stream->head_length;
-    uint32_t status, length = stream->metadata.length;
-    uint8_t type = stream->metadata.type;
-    if (type == CLAXON_APPLICATION && length >= 4 && length <= CLAXON_STREAM_MAX_APPLICATION) {
-        length = 4; /* claxon_open allocates memory for all of it */
-    }
-    header[0] = (uint8_t)(0x80 | type);
-    header[1] = (uint8_t)(length >> 16);
-    header[2] = (uint8_t)(length >> 8);
-    header[3] = (uint8_t)length;
-    status = claxon_open(stream->head, stream->head_length + 4, &info, stream->error, sizeof stream->error);
-    return status == CLAXON_INPUT_ENDS ? (uint32_t)CLAXON_OK : status;
-}
-
-/* Finds what is wrong with the content of a block whose header has no fault. */
-CLAXON_STATIC uint32_t claxon_stream_try_block(struct claxon_stream *stream) {
-    static const uint8_t no_streaminfo[8] = {'f', 'L', 'a', 'C', 0x80 | CLAXON_PADDING, 0, 0, 0};
-    struct claxon_info info;
-    uint8_t type = stream->metadata.type;
-    if (type == CLAXON_STREAMINFO || type == CLAXON_VORBIS_COMMENT) {
-        return claxon_stream_try_content(stream);
-    }
-    if (stream->metadata_blocks == 1) {
-        uint32_t status = claxon_stream_skip_content(stream);
-        return status == CLAXON_OK ? claxon_open(no_streaminfo, 8, &info, stream->error, sizeof stream->error) : status;
-    }
-    return CLAXON_OK;
 }
 
 CLAXON_STATIC uint32_t claxon_stream_next_metadata(struct claxon_stream *stream, struct claxon_metadata *metadata) {
-    uint32_t status = CLAXON_OK;
+    uint32_t status;
     if (stream->in_frames) {
         return claxon_stream_no_fault(stream, CLAXON_NO_MORE);
     }
     if (stream->head_status != CLAXON_OK) {
         return stream->head_status;
     }
-    if (!stream->in_block) {
-        status = claxon_stream_metadata_header(stream, &stream->metadata);
-        if (status == CLAXON_OK) {
-            status = claxon_stream_try_header(stream);
-        }
-        stream->in_block = status == CLAXON_OK;
-    }
-    if (status == CLAXON_OK) {
-        status = claxon_stream_try_block(stream);
-    }
-    if (status == CLAXON_NEED_MORE) {
-        return claxon_stream_no_fault(stream, status);
-    }
-    stream->in_block = 0;
+    stream->kept = NULL;
+    stream->content_left = 0;
+    status = claxon_stream_next_shown(stream);
     if (status == CLAXON_NO_MORE) {
         stream->in_frames = 1;
-        stream->info.first_frame = (size_t)stream->position;
-    } else if (status != CLAXON_OK) {
+    } else if (status != CLAXON_OK && status != CLAXON_NEED_MORE) {
         stream->head_status = status;
         return status;
     }
-    *metadata = stream->metadata;
+    if (status == CLAXON_OK) {
+        *metadata = stream->metadata;
+    }
     return claxon_stream_no_fault(stream, status);
 }
 
@@ -683,6 +504,8 @@ CLAXON_STATIC uint32_t claxon_stream_find_tag(const struct claxon_stream *stream
     return status;
 }
 
+/* Frames. */
+
 /* Makes room for so many samples. */
 CLAXON_STATIC uint32_t claxon_stream_hold_samples(struct claxon_stream *stream, size_t count) {
     if (count > stream->samples_size) {
@@ -698,176 +521,40 @@ CLAXON_STATIC uint32_t claxon_stream_hold_samples(struct claxon_stream *stream, 
     return CLAXON_OK;
 }
 
-/* How many bytes are held of those that a frame may have. */
-CLAXON_STATIC size_t claxon_stream_frame_bytes(const struct claxon_stream *stream) {
-    return stream->held < CLAXON_MAX_FRAME_BYTES ? stream->held : CLAXON_MAX_FRAME_BYTES;
-}
-
-/* Whether a frame that seems to end before these bytes is worth a try: they begin another one, or nothing is there yet; or few
- * of the other tries were in vain. */
-CLAXON_STATIC int claxon_stream_may_end(const struct claxon_stream *stream, const uint8_t *after, size_t count) {
-    int is_likely = count == 0 || (after[0] == 0xff && (count == 1 || after[1] >> 1 == 0x7c));
-    return stream->in_vain <= (is_likely ? CLAXON_STREAM_MAX_IN_VAIN : CLAXON_STREAM_MAX_UNLIKELY);
-}
-
-/* Whether the frame may end in the bytes that weren't tried: after its footer the CRC of all its bytes is 0, and by chance
- * at one place of 65536. It is summed up to the first such place. */
-CLAXON_STATIC int claxon_stream_has_footer(struct claxon_stream *stream) {
-    const uint8_t *bytes = stream->window + stream->start;
-    size_t end = stream->held < stream->longest ? stream->held : stream->longest;
-    if (stream->summed < stream->tried) {
-        stream->crc = claxon_crc16(stream->crc, bytes + stream->summed, stream->tried - stream->summed);
-        stream->summed = stream->tried;
-    }
-    while (stream->summed < end) {
-        stream->crc = claxon_crc16(stream->crc, bytes + stream->summed, 1);
-        stream->summed++;
-        if (stream->crc == 0 && claxon_stream_may_end(stream, bytes + stream->summed, stream->held - stream->summed)) {
-            return 1;
-        }
-    }
-    return 0;
-}
-
-/* Whether the frame at the start of the window is worth a try. Each try begins anew. So that the time is linear, the bytes
- * are doubled between two tries, but where they seem to have a footer. Such tries that lead to no block are wasted work, and
- * after very much of that, as in a stream that is made for it, none are made. */
-CLAXON_STATIC int claxon_stream_is_worth_a_try(struct claxon_stream *stream) {
-    size_t held = claxon_stream_frame_bytes(stream);
-    if (stream->has_ended || held == CLAXON_MAX_FRAME_BYTES) {
-        return 1;
-    }
-    if (held < 2 || held == stream->tried) {
-        return 0;
-    }
-    return held >= 2 * stream->tried || (stream->in_vain <= CLAXON_STREAM_MAX_IN_VAIN && claxon_stream_has_footer(stream));
-}
-
-/* Reads until the frame at the start of the window is worth a try. */
-CLAXON_STATIC uint32_t claxon_stream_hold_frame(struct claxon_stream *stream) {
-    uint32_t status = CLAXON_OK;
-    while (status == CLAXON_OK && !claxon_stream_is_worth_a_try(stream)) {
-        status = claxon_stream_read_more(stream);
-    }
-    return status;
-}
-
-/* How many of them are tried. Much may have been handed in, and what is tried in vain counts as wasted. */
-CLAXON_STATIC size_t claxon_stream_trial(const struct claxon_stream *stream) {
-    size_t held = claxon_stream_frame_bytes(stream);
-    size_t most = 2 * stream->tried < CLAXON_STREAM_STEP ? CLAXON_STREAM_STEP : 2 * stream->tried;
-    return stream->read || held < most ? held : most;
-}
-
-/* Decodes the frame at the start of the window, if the bytes that are tried and the samples suffice. With CLAXON_OK, `length`
- * is its length in bytes. */
-CLAXON_STATIC uint32_t claxon_stream_try_frame(struct claxon_stream *stream, int planar, size_t *length,
-                                               struct claxon_block *block) {
-    const uint8_t *bytes = stream->window + stream->start;
-    stream->trial = claxon_stream_trial(stream);
-    *length = 0;
-    if (stream->trial < 2) {
-        return CLAXON_NO_MORE;
-    }
-    if (planar) {
-        return claxon_next_block_planar(bytes, stream->trial, length, &stream->info, stream->samples, stream->samples_size,
-                                        block, stream->error, sizeof stream->error);
-    }
-    return claxon_next_block(bytes, stream->trial, length, &stream->info, stream->samples, stream->samples_size, block,
-                             stream->error, sizeof stream->error);
-}
-
-/* The same with as much memory for samples as it takes. */
+/* Decodes the frame at `position` of the bytes that are held. With CLAXON_OK, `length` is its length in bytes. */
 CLAXON_STATIC uint32_t claxon_stream_try(struct claxon_stream *stream, int planar, size_t *length, struct claxon_block *block) {
-    uint32_t status = claxon_stream_try_frame(stream, planar, length, block);
-    if (status == CLAXON_BUFFER_TOO_SMALL) {
-        status = claxon_stream_hold_samples(stream, (size_t)block->channels * block->duration);
-        if (status == CLAXON_OK) {
-            status = claxon_stream_try_frame(stream, planar, length, block);
-        }
-    }
-    return status;
-}
-
-/* Reads the header at the start of the window. BUFFER_TOO_SMALL: there is one, and `block` is filled. */
-CLAXON_STATIC uint32_t claxon_stream_frame_header(struct claxon_stream *stream, struct claxon_block *block) {
-    int32_t samples;
-    size_t at = 0;
-    return claxon_next_block(stream->window + stream->start, stream->held, &at, &stream->info, &samples, 0, block,
-                             stream->error, 0);
-}
-
-/* The number of samples, of all channels, of the frame at the start of the window, or 0 where its header isn't there. */
-CLAXON_STATIC uint64_t claxon_stream_frame_samples(struct claxon_stream *stream) {
-    struct claxon_block block;
-    uint32_t status = claxon_stream_frame_header(stream, &block);
-    return status == CLAXON_BUFFER_TOO_SMALL ? (uint64_t)block.channels * block.duration : 0;
-}
-
-/* What it cost at most to find no frame of so many samples at the start of the window, in bytes and samples. */
-CLAXON_STATIC uint64_t claxon_stream_cost(const struct claxon_stream *stream, uint64_t samples) {
-    return CLAXON_STREAM_WASTED_BY_A_CALL + (samples > 0 ? stream->trial + samples : 0);
-}
-
-/* Notes that no whole frame is in the bytes that were tried. Returns whether more can be tried. */
-CLAXON_STATIC int claxon_stream_is_cut(struct claxon_stream *stream) {
-    uint64_t samples;
-    if (stream->trial == CLAXON_MAX_FRAME_BYTES || (stream->trial == stream->held && stream->has_ended)) {
-        return 0;
-    }
-    samples = claxon_stream_frame_samples(stream);
-    if (samples > 0) {
-        stream->longest = CLAXON_STREAM_STEP + CLAXON_STREAM_BYTES_OF_A_SAMPLE * (size_t)samples;
-    }
-    if (stream->trial < 2 * stream->tried) {
-        stream->in_vain += claxon_stream_cost(stream, samples);
-    }
-    stream->tried = stream->trial;
-    return 1;
-}
-
-/* The status and the text where no block was decoded. */
-CLAXON_STATIC uint32_t claxon_stream_no_block(struct claxon_stream *stream, uint32_t status) {
-    if (status == CLAXON_NEED_MORE) {
-        return status;
-    }
-    claxon_stream_begin_frame(stream);
-    if (status == CLAXON_INPUT_ENDS && stream->trial == CLAXON_MAX_FRAME_BYTES) {
+    int is_full = stream->held >= CLAXON_MAX_FRAME_BYTES;
+    uint32_t status = (planar ? claxon_frames_next_planar : claxon_frames_next)(
+        &stream->frames, claxon_stream_bytes(stream), is_full ? CLAXON_MAX_FRAME_BYTES : stream->held, stream->position,
+        stream->has_ended || is_full, &stream->info, stream->samples, stream->samples_size, block, stream->error,
+        sizeof stream->error);
+    *length = (size_t)(stream->frames.position - stream->position);
+    if (status == CLAXON_INPUT_ENDS && is_full) {
         return claxon_stream_fault(stream, CLAXON_FORMAT_ERROR, "frame longer than 16777215 bytes");
     }
-    if (stream->has_failed && (status == CLAXON_INPUT_ENDS || status == CLAXON_NO_MORE)) {
-        return claxon_stream_read_failed(stream);
-    }
-    return status == CLAXON_NO_MORE ? claxon_stream_no_fault(stream, status) : status;
+    return status;
 }
 
-/* Decodes the frame at the start of the window, for which it reads what it takes. With CLAXON_OK, `length` is its length in
- * bytes. */
+/* The same with as much memory for samples, and as many bytes, as it takes. */
 CLAXON_STATIC uint32_t claxon_stream_decode(struct claxon_stream *stream, int planar, size_t *length) {
     struct claxon_block block;
     uint32_t status = claxon_stream_hold_samples(stream, 8192);
+    if (stream->frames.position != stream->position) {
+        claxon_frames_go_on(&stream->frames, stream->position);
+    }
     while (status == CLAXON_OK) {
-        status = claxon_stream_hold_frame(stream);
-        if (status != CLAXON_OK) {
-            break;
-        }
         status = claxon_stream_try(stream, planar, length, &block);
-        if (status == CLAXON_OK) {
+        if (status == CLAXON_BUFFER_TOO_SMALL) {
+            status = claxon_stream_hold_samples(stream, (size_t)block.channels * block.duration);
+        } else if (status == CLAXON_NEED_MORE) {
+            status = claxon_stream_read_more(stream);
+        } else if (status == CLAXON_OK) {
             stream->block = block;
-            claxon_stream_begin_frame(stream);
             return claxon_stream_no_fault(stream, status);
         }
-        if (status == CLAXON_INPUT_ENDS && claxon_stream_is_cut(stream)) {
-            status = CLAXON_OK;
-        }
     }
-    return claxon_stream_no_block(stream, status);
-}
-
-/* Notes that no frame begins at the start of the window. */
-CLAXON_STATIC void claxon_stream_refuse(struct claxon_stream *stream) {
-    stream->is_refused = 1;
-    stream->wasted += claxon_stream_cost(stream, claxon_stream_frame_samples(stream));
+    status = claxon_stream_unless_failed(stream, status);
+    return status == CLAXON_NO_MORE ? claxon_stream_no_fault(stream, status) : status;
 }
 
 /* Whether a call that returned this status is done: a block was found, or the call may be repeated. */
@@ -875,23 +562,41 @@ CLAXON_STATIC int claxon_stream_is_done(uint32_t status) {
     return status == CLAXON_OK || status == CLAXON_OUT_OF_MEMORY || status == CLAXON_NEED_MORE;
 }
 
+/* Reads the header at the start of the window. BUFFER_TOO_SMALL: there is one, and `block` is filled. */
+CLAXON_STATIC uint32_t claxon_stream_frame_header(struct claxon_stream *stream, struct claxon_block *block) {
+    int32_t samples;
+    char error[1];
+    size_t at = 0;
+    return claxon_next_block(stream->window + stream->start, stream->held, &at, &stream->info, &samples, 0, block, error, 0);
+}
+
+/* Notes that no frame begins at the start of the window, after so many bytes were read. */
+CLAXON_STATIC void claxon_stream_refuse(struct claxon_stream *stream, size_t length) {
+    struct claxon_block block;
+    stream->is_refused = 1;
+    stream->wasted += CLAXON_STREAM_WASTED_BY_A_CALL;
+    if (claxon_stream_frame_header(stream, &block) == CLAXON_BUFFER_TOO_SMALL) {
+        stream->wasted += length + (uint64_t)block.channels * block.duration;
+    }
+}
+
 CLAXON_STATIC uint32_t claxon_stream_next(struct claxon_stream *stream, int planar) {
-    size_t length;
+    size_t length = stream->ready;
     uint32_t status = claxon_stream_open(stream);
     if (status != CLAXON_OK) {
         return status;
     }
-    if (stream->ready > 0 && stream->is_planar == planar) {
-        claxon_stream_pass(stream, stream->ready);
-        return claxon_stream_no_fault(stream, CLAXON_OK);
+    if (length == 0 || stream->is_planar != planar) {
+        stream->ready = 0;
+        stream->is_planar = (uint8_t)planar;
+        status = claxon_stream_decode(stream, planar, &length);
     }
-    stream->ready = 0;
-    stream->is_planar = (uint8_t)planar;
-    status = claxon_stream_decode(stream, planar, &length);
     if (status == CLAXON_OK) {
         claxon_stream_pass(stream, length);
-    } else if (status != CLAXON_NO_MORE && !claxon_stream_is_done(status)) {
-        claxon_stream_refuse(stream);
+        return claxon_stream_no_fault(stream, status);
+    }
+    if (status != CLAXON_NO_MORE && !claxon_stream_is_done(status)) {
+        claxon_stream_refuse(stream, length);
     }
     return status;
 }
@@ -924,86 +629,52 @@ CLAXON_STATIC void claxon_stream_pass_unsearched(struct claxon_stream *stream) {
     claxon_stream_pass_to_sync(stream);
 }
 
-/* Passes over bytes that were searched. Each sync code in them took a little work. */
-CLAXON_STATIC void claxon_stream_pass_searched(struct claxon_stream *stream, size_t count) {
-    const uint8_t *bytes = stream->window + stream->start;
-    size_t i, sync_codes = 0;
-    for (i = 0; i + 1 < count; i++) {
-        sync_codes += bytes[i] == 0xff && bytes[i + 1] >> 1 == 0x7c;
-    }
-    stream->wasted += sync_codes * CLAXON_STREAM_WASTED_BY_A_SYNC_CODE;
-    if (count > 0) {
-        claxon_stream_pass(stream, count);
-    }
-}
-
-/* Searches what is held for the next header of a frame of the stream, and goes to it. NO_MORE: there is none. What can't become
- * one by more bytes is passed over. */
-CLAXON_STATIC uint32_t claxon_stream_search_header(struct claxon_stream *stream) {
+/* Searches the bytes that are held. Where as many as may be held aren't all of a frame, the search goes on in their second
+ * half, if there is no other frame in them. */
+CLAXON_STATIC uint32_t claxon_stream_search(struct claxon_stream *stream, uint64_t *found) {
+    const uint8_t *bytes = claxon_stream_bytes(stream);
     struct claxon_block block;
-    uint64_t budget = 0; /* so that it stops at a header, and decodes no frame */
-    size_t at = 0;
-    uint32_t status;
-    if (stream->tried == 0) {
-        claxon_stream_pass_unsearched(stream);
+    uint32_t status = claxon_search_next(&stream->search, bytes, stream->held, stream->position, stream->has_ended,
+                                         &stream->info, found, &block);
+    uint64_t from = stream->search.position;
+    if (status != CLAXON_NEED_MORE || stream->position + stream->held - from < CLAXON_MAX_FRAME_BYTES) {
+        return status;
     }
-    if (stream->held == 0) {
-        return CLAXON_NO_MORE;
+    status = claxon_search_next(&stream->search, bytes, stream->held, stream->position, 1, &stream->info, found, &block);
+    if (status == CLAXON_NO_MORE) {
+        claxon_search_go_on(&stream->search, from + CLAXON_MAX_FRAME_BYTES / 2);
+        status = CLAXON_NEED_MORE;
     }
-    status = claxon_find_frame(stream->window + stream->start, stream->held, &at, &stream->info, &budget, &block);
-    claxon_stream_pass_searched(stream, at);
-    return status == CLAXON_OVER_BUDGET ? (uint32_t)CLAXON_OK : status;
-}
-
-/* Goes to the next header of a frame of the stream, and reads what it takes. NO_MORE: none is left. */
-CLAXON_STATIC uint32_t claxon_stream_next_header(struct claxon_stream *stream) {
-    for (;;) {
-        uint32_t status = claxon_stream_search_header(stream);
-        if (status != CLAXON_NO_MORE) {
-            return status == CLAXON_OK ? status : claxon_stream_out_of_memory(stream);
-        }
-        if (stream->has_ended) {
-            claxon_stream_pass(stream, stream->held);
-            return stream->has_failed ? claxon_stream_read_failed(stream) : claxon_stream_no_fault(stream, CLAXON_NO_MORE);
-        }
-        status = claxon_stream_read_more(stream);
-        if (status != CLAXON_OK) {
-            return status;
-        }
-    }
-}
-
-/* Decodes the frame whose header is at the start of the window, and doesn't pass it. NO_MORE: there is no such frame. */
-CLAXON_STATIC uint32_t claxon_stream_try_found(struct claxon_stream *stream) {
-    size_t length;
-    uint32_t status = claxon_stream_decode(stream, stream->is_planar, &length);
-    if (!claxon_stream_is_done(status)) {
-        claxon_stream_refuse(stream);
-        return CLAXON_NO_MORE;
-    }
-    stream->ready = status == CLAXON_OK ? length : 0;
     return status;
 }
 
 CLAXON_STATIC uint32_t claxon_stream_resync(struct claxon_stream *stream) {
+    uint64_t found = 0;
+    uint32_t status;
     stream->in_frames = 1;
     stream->content_left = 0;
-    claxon_stream_drop_made_head(stream);
-    if (stream->is_refused && stream->held > 0) {
+    if (stream->is_refused) {
         claxon_stream_pass(stream, 1);
     }
-    while (stream->ready == 0) {
-        uint32_t status = claxon_stream_next_header(stream);
-        if (status != CLAXON_OK) {
-            return status;
-        }
-        status = claxon_stream_try_found(stream);
-        if (status != CLAXON_NO_MORE) {
-            return status;
-        }
-        claxon_stream_pass(stream, 1);
+    if (stream->ready > 0) {
+        return claxon_stream_no_fault(stream, CLAXON_OK);
     }
-    return claxon_stream_no_fault(stream, CLAXON_OK);
+    do {
+        claxon_stream_pass_unsearched(stream);
+        if (stream->search.position != stream->position) {
+            claxon_search_go_on(&stream->search, stream->position);
+        }
+        status = claxon_stream_search(stream, &found);
+        claxon_stream_pass(stream, (status == CLAXON_OK ? found : stream->search.position) - stream->position);
+        if (status == CLAXON_OUT_OF_MEMORY) {
+            return claxon_stream_out_of_memory(stream);
+        }
+        if (status != CLAXON_NEED_MORE) {
+            return claxon_stream_unless_failed(stream, claxon_stream_no_fault(stream, status));
+        }
+        status = claxon_stream_read_more(stream);
+    } while (status == CLAXON_OK);
+    return status;
 }
 
 /* Seeking. */
@@ -1027,6 +698,65 @@ struct claxon_stream_span {
     uint64_t stride;            /* how far the next guess goes where the end isn't known */
 };
 
+/* Passes over bytes that were searched. Each sync code in them took a little work. */
+CLAXON_STATIC void claxon_stream_pass_searched(struct claxon_stream *stream, size_t count) {
+    const uint8_t *bytes = stream->window + stream->start;
+    size_t i, sync_codes = 0;
+    for (i = 0; i + 1 < count; i++) {
+        sync_codes += bytes[i] == 0xff && bytes[i + 1] >> 1 == 0x7c;
+    }
+    stream->wasted += sync_codes * CLAXON_STREAM_WASTED_BY_A_SYNC_CODE;
+    if (count > 0) {
+        claxon_stream_pass(stream, count);
+    }
+}
+
+/* Searches what is held for the next header of a frame of the stream, and goes to it. NO_MORE: there is none. What can't become
+ * one by more bytes is passed over. */
+CLAXON_STATIC uint32_t claxon_stream_search_header(struct claxon_stream *stream) {
+    struct claxon_block block;
+    uint64_t budget = 0; /* so that it stops at a header, and decodes no frame */
+    size_t at = 0;
+    uint32_t status;
+    claxon_stream_pass_unsearched(stream);
+    if (stream->held == 0) {
+        return CLAXON_NO_MORE;
+    }
+    status = claxon_find_frame(stream->window + stream->start, stream->held, &at, &stream->info, &budget, &block);
+    claxon_stream_pass_searched(stream, at);
+    return status == CLAXON_OVER_BUDGET ? (uint32_t)CLAXON_OK : status;
+}
+
+/* Goes to the next header of a frame of the stream, and reads what it takes. NO_MORE: none is left. */
+CLAXON_STATIC uint32_t claxon_stream_next_header(struct claxon_stream *stream) {
+    for (;;) {
+        uint32_t status = claxon_stream_search_header(stream);
+        if (status != CLAXON_NO_MORE) {
+            return status == CLAXON_OK ? status : claxon_stream_out_of_memory(stream);
+        }
+        if (stream->has_ended) {
+            claxon_stream_pass(stream, stream->held);
+            return claxon_stream_unless_failed(stream, claxon_stream_no_fault(stream, CLAXON_NO_MORE));
+        }
+        status = claxon_stream_read_more(stream);
+        if (status != CLAXON_OK) {
+            return status;
+        }
+    }
+}
+
+/* Decodes the frame whose header is at the start of the window, and doesn't pass it. NO_MORE: there is no such frame. */
+CLAXON_STATIC uint32_t claxon_stream_try_found(struct claxon_stream *stream) {
+    size_t length = 0;
+    uint32_t status = claxon_stream_decode(stream, stream->is_planar, &length);
+    if (claxon_stream_is_done(status)) {
+        stream->ready = status == CLAXON_OK ? length : 0;
+        return status;
+    }
+    claxon_stream_refuse(stream, length);
+    return CLAXON_NO_MORE;
+}
+
 CLAXON_STATIC void claxon_stream_set_seek(struct claxon_stream *stream, claxon_stream_seek_to *seek) {
     stream->seek = seek;
     stream->is_located = 0;
@@ -1040,7 +770,6 @@ CLAXON_STATIC uint32_t claxon_stream_lose(struct claxon_stream *stream) {
     stream->is_refused = 0;
     stream->has_ended = 1;
     stream->has_failed = CLAXON_STREAM_SEEK_FAILED;
-    claxon_stream_begin_frame(stream);
     return claxon_stream_read_failed(stream);
 }
 
@@ -1231,7 +960,7 @@ CLAXON_STATIC uint32_t claxon_stream_seek(struct claxon_stream *stream, uint64_t
     }
     stream->at_once = CLAXON_STREAM_SEEK_STEP;
     status = claxon_stream_seek_by_times(stream, sample);
-    stream->at_once = SIZE_MAX;
+    stream->at_once = CLAXON_STREAM_STEP;
     if (status == CLAXON_NO_MORE) {
         status = claxon_stream_seek_by_search(stream, sample);
     }

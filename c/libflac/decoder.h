@@ -158,11 +158,23 @@ enum raw_header { RAW_NO_SYNC, RAW_DAMAGED, RAW_HEADER };
 enum raw_header raw_header(const uint8_t *bytes, size_t length);
 int raw_has_sample_number(const uint8_t *bytes);
 void raw_fill_header(FLAC__FrameHeader *header, const uint8_t *bytes);
-void raw_fill_rest(FLAC__Frame *frame, const uint8_t *bytes, size_t length);
+void raw_fill_rest(FLAC__Frame *frame, const uint8_t *bytes, size_t length, const int32_t *samples);
 
-/* subframes.c: the kinds of subframes, of bytes from the first one on, where the frame's header is filled; and as their
- * contents zeros, as many as the block has samples, since a program may read what a pointer leads to. */
-void fill_subframes(FLAC__Frame *frame, const uint8_t *bytes, size_t length);
+/* residual.c: how many bits a partition of a residual takes, by samples of 16 bits and the predictor's coefficients. */
+#define RESIDUAL_MAX_SAMPLES 8192
+struct residual {
+    int16_t samples[FLAC__MAX_LPC_ORDER + RESIDUAL_MAX_SAMPLES]; /* those of the subframe, after zeros */
+    int32_t coefficients[FLAC__MAX_LPC_ORDER];                   /* from that of the sample just before on; then zeros */
+    uint32_t order, shift;
+};
+int residual_start(struct residual *residual, const FLAC__FrameHeader *header, const int32_t *samples, uint32_t channel,
+                   unsigned wasted_bits);
+int residual_fits(const struct residual *residual);
+uint64_t residual_length(const struct residual *residual, uint32_t from, uint32_t count, unsigned parameter);
+
+/* subframes.c: the kinds of subframes, of bytes from the first one on, where the frame's header is filled, and of its samples;
+ * and as their contents zeros, as many as the block has samples, since a program may read what a pointer leads to. */
+void fill_subframes(FLAC__Frame *frame, const uint8_t *bytes, size_t length, const int32_t *samples);
 void fill_contents(FLAC__Frame *frame, const int32_t *zeros);
 
 /* engine.c: the frames, as claxon_stream.h gives them. */

@@ -186,7 +186,7 @@ static int write_block(struct decoder *self, const struct claxon_stream *engine,
     }
     memset(&self->frame, 0, sizeof self->frame);
     self->frame.header = *header;
-    raw_fill_rest(&self->frame, bytes, length);
+    raw_fill_rest(&self->frame, bytes, length, engine->samples);
     fill_contents(&self->frame, self->silence);
     return write_frame(self, engine->samples, skipped);
 }

@@ -58,10 +58,10 @@ void raw_fill_header(FLAC__FrameHeader *header, const uint8_t *bytes) {
     header->crc = bytes[crc8_at(bytes)];
 }
 
-void raw_fill_rest(FLAC__Frame *frame, const uint8_t *bytes, size_t length) {
+void raw_fill_rest(FLAC__Frame *frame, const uint8_t *bytes, size_t length, const int32_t *samples) {
     size_t subframes = crc8_at(bytes) + 1;
     if (length > subframes + 2) {
-        fill_subframes(frame, bytes + subframes, length - subframes - 2);
+        fill_subframes(frame, bytes + subframes, length - subframes - 2, samples);
         frame->footer.crc = (FLAC__uint16)(bytes[length - 2] << 8 | bytes[length - 1]);
     }
 }

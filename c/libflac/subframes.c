@@ -106,18 +106,39 @@ static void pass_codes(struct bits *bits, uint32_t count, unsigned parameter) {
     }
 }
 
-/* Passes over a residual (section 9.2.7). */
-static void pass_residual(struct bits *bits, uint32_t block_size, uint32_t order) {
+/* Passes over a residual (section 9.2.7), by samples where they are known. */
+static void pass_residual(struct bits *bits, uint32_t block_size, uint32_t order, const struct residual *known) {
     unsigned width = take(bits, 2) == 0 ? 4 : 5, partition_order = take(bits, 4);
     uint32_t partition, size = block_size >> partition_order;
     for (partition = 0; partition >> partition_order == 0 && bits->at < bits->end; partition++) {
         unsigned parameter = take(bits, width);
-        uint32_t count = partition > 0 ? size : size > order ? size - order : 0;
+        uint32_t from = partition > 0 ? partition * size : order, count = (partition + 1) * size;
+        count = count > from ? count - from : 0;
         if (parameter == (1u << width) - 1) { /* the residuals have so many bits each */
             bits->at += (uint64_t)take(bits, 5) * count;
+        } else if (known) {
+            bits->at += residual_length(known, from, count, parameter);
         } else {
             pass_codes(bits, count, parameter);
         }
+    }
+}
+
+/* Reads the predictor of a subframe, whose header and first samples were passed (sections 9.2.5 and 9.2.6). */
+static void read_predictor(struct bits *bits, unsigned code, struct residual *residual) {
+    static const int32_t fixed[5][4] = {{0}, {1}, {2, -1}, {3, -3, 1}, {4, -6, 4, -1}};
+    uint32_t i, order = residual->order;
+    memset(residual->coefficients, 0, sizeof residual->coefficients);
+    residual->shift = 0;
+    if (code >= 32) {
+        unsigned precision = take(bits, 4) + 1;
+        residual->shift = take(bits, 5);
+        for (i = 0; i < order; i++) {
+            int32_t coefficient = (int32_t)take(bits, precision);
+            residual->coefficients[i] = coefficient - (coefficient >> (precision - 1) << precision);
+        }
+    } else if (order <= 4) {
+        memcpy(residual->coefficients, fixed[order], sizeof fixed[order]);
     }
 }
 
@@ -132,38 +153,37 @@ static unsigned read_header(struct bits *bits, FLAC__Subframe *subframe) {
     return code;
 }
 
-/* Passes over what follows the header of a subframe with samples of so many bits (sections 9.2.3 to 9.2.6). */
-static void pass_samples(struct bits *bits, unsigned code, uint32_t block_size, uint32_t width) {
-    uint32_t order = code >= 32 ? code - 31 : code >= 8 ? code - 8 : 0;
-    bits->at += (uint64_t)width * (code == 0 ? 1 : code == 1 ? block_size : order);
-    if (code >= 32) {
-        unsigned precision = take(bits, 4) + 1;
-        bits->at += 5 + precision * order;
-    }
-    if (code > 1) {
-        pass_residual(bits, block_size, order);
-    }
-}
-
 /* Whether a channel is that of the differences, whose samples have one bit more. */
 static int is_side(const FLAC__FrameHeader *header, uint32_t channel) {
     return header->channel_assignment != FLAC__CHANNEL_ASSIGNMENT_INDEPENDENT &&
            channel == (header->channel_assignment == FLAC__CHANNEL_ASSIGNMENT_RIGHT_SIDE ? 0 : 1);
 }
 
-void fill_subframes(FLAC__Frame *frame, const uint8_t *bytes, size_t length) {
+/* Passes over what follows the header of a channel's subframe (sections 9.2.3 to 9.2.6). */
+static void pass_samples(struct bits *bits, unsigned code, const FLAC__Frame *frame, uint32_t channel, const int32_t *samples) {
     const FLAC__FrameHeader *header = &frame->header;
+    uint32_t wasted_bits = frame->subframes[channel].wasted_bits, width = header->bits_per_sample + is_side(header, channel);
+    struct residual residual;
+    width = width > wasted_bits ? width - wasted_bits : 0;
+    residual.order = code >= 32 ? code - 31 : code >= 8 ? code - 8 : 0;
+    bits->at += (uint64_t)width * (code == 0 ? 1 : code == 1 ? header->blocksize : residual.order);
+    if (code > 1) {
+        int is_known;
+        read_predictor(bits, code, &residual);
+        is_known = residual_fits(&residual) && residual_start(&residual, header, samples, channel, wasted_bits);
+        pass_residual(bits, header->blocksize, residual.order, is_known ? &residual : NULL);
+    }
+}
+
+void fill_subframes(FLAC__Frame *frame, const uint8_t *bytes, size_t length, const int32_t *samples) {
     struct bits bits = {NULL, 0, 0};
     uint32_t channel;
     bits.bytes = bytes;
     bits.end = 8 * (uint64_t)length;
-    for (channel = 0; channel < header->channels; channel++) {
-        FLAC__Subframe *subframe = &frame->subframes[channel];
-        unsigned code = read_header(&bits, subframe);
-        uint32_t width = header->bits_per_sample + is_side(header, channel);
-        if (channel + 1 < header->channels) {
-            width = width > subframe->wasted_bits ? width - subframe->wasted_bits : 0;
-            pass_samples(&bits, code, header->blocksize, width);
+    for (channel = 0; channel < frame->header.channels; channel++) {
+        unsigned code = read_header(&bits, &frame->subframes[channel]);
+        if (channel + 1 < frame->header.channels) {
+            pass_samples(&bits, code, frame, channel, samples);
         }
     }
 }

@@ -537,7 +537,7 @@ struct made_block {
     size_t length;
 };
 
-/* A head with two pictures of the greatest length, and comments with a tag; one frame follows. */
+/* A head with two pictures of the greatest length, an application block, and comments with a tag; one frame follows. */
 static const struct made_block blocks[] = {{CLAXON_STREAMINFO, 34},       {CLAXON_PICTURE, 0xffffff},
                                            {CLAXON_APPLICATION, 1000000}, {CLAXON_VORBIS_COMMENT, 18},
                                            {CLAXON_PICTURE, 0xffffff},    {CLAXON_PADDING, 0}};
@@ -624,12 +624,12 @@ static void test_walk(const struct made *made, size_t every, size_t piece, enum 
         i++;
     }
     expect(i == BLOCKS && stream.info.first_frame == at && stream.position == at, "a head", "its end");
-    expect(greatest_request == 65536, "a head", "memory for pictures");
+    expect(greatest_request >= 1000000 && greatest_request < 4000000, "a head", "memory for what isn't a picture");
     expect(claxon_stream_next_metadata(&stream, &metadata) == CLAXON_NO_MORE, "a head", "a block after the end");
     expect(claxon_stream_content(&stream, made->bytes, 1) == 0, "a head", "content after the end");
     expect(call(claxon_stream_next_block, &stream, &source) == CLAXON_OK && stream.samples[15] == 0x1234, "a head",
            "the frame after it");
-    expect(greatest_request == 65536, "a head", "memory for the samples of a small block");
+    expect(greatest_request < 4000000, "a head", "memory for the samples of a small block");
     expect(call(claxon_stream_next_block, &stream, &source) == CLAXON_NO_MORE, "a head", "the end of the stream");
     claxon_stream_free(&stream);
 }

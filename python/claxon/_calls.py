@@ -6,8 +6,9 @@ from typing import Any, Dict, List
 # What the header claxon.h has.
 OK, FORMAT_ERROR, UNSUPPORTED, INPUT_ENDS = 0, 1, 2, 3
 OUT_OF_MEMORY, NO_MORE, BUFFER_TOO_SMALL, OVER_BUDGET = 4, 5, 6, 7
-NEED_MORE = -1  # no status of the library: more bytes have to be handed in
+NEED_MORE = 100
 STREAMINFO, SEEK_TABLE, VORBIS_COMMENT, CUE_SHEET, PICTURE = 0, 3, 4, 5, 6
+METADATA_HEADER, METADATA_CONTENT = 1, 2
 MAX_FRAME_BYTES = 16777215
 INTERFACE = 3  # the minor version of the library, below 1.0.0
 _LIBRARY = f"libclaxon.so.0.{INTERFACE}"
@@ -56,6 +57,53 @@ class Block(ctypes.Structure):
         ("duration", ctypes.c_uint32),
         ("sample_rate", ctypes.c_uint32),
         ("bits_per_sample", ctypes.c_uint32),
+    ]
+
+
+class Head(ctypes.Structure):
+    _fields_ = [
+        ("position", ctypes.c_uint64),
+        ("begin", ctypes.c_uint64),
+        ("next", ctypes.c_uint32),
+        ("is_last", ctypes.c_uint8),
+        ("type", ctypes.c_uint8),
+        ("length", ctypes.c_uint32),
+        ("is_metadata_only", ctypes.c_uint8),
+        ("has_comment_option", ctypes.c_uint8),
+        ("has_info", ctypes.c_uint8),
+        ("has_comment", ctypes.c_uint8),
+        ("most", ctypes.c_uint32),
+        ("needed", ctypes.c_size_t),
+        ("part", ctypes.c_uint32),
+    ]
+
+
+class Frames(ctypes.Structure):
+    _fields_ = [
+        ("position", ctypes.c_uint64),
+        ("tried", ctypes.c_size_t),
+        ("summed", ctypes.c_size_t),
+        ("crc", ctypes.c_uint16),
+        ("is_near", ctypes.c_uint8),
+        ("wasted", ctypes.c_uint64),
+        ("counted", ctypes.c_uint64),
+        ("needed", ctypes.c_size_t),
+    ]
+
+
+class Search(ctypes.Structure):
+    _fields_ = [
+        ("position", ctypes.c_uint64),
+        ("tried", ctypes.c_size_t),
+        ("summed", ctypes.c_size_t),
+        ("crc", ctypes.c_uint16),
+        ("is_near", ctypes.c_uint8),
+        ("wasted_by_tries", ctypes.c_uint64),
+        ("counted_by_tries", ctypes.c_uint64),
+        ("wasted", ctypes.c_uint64),
+        ("counted", ctypes.c_uint64),
+        ("has_passed_over", ctypes.c_uint8),
+        ("needed", ctypes.c_size_t),
     ]
 
 
@@ -122,31 +170,37 @@ def _load_library() -> ctypes.CDLL:
 def _declare(found: ctypes.CDLL) -> None:
     """Sets the types of the calls. AttributeError where one is missing."""
     size, to_size = ctypes.c_size_t, ctypes.POINTER(ctypes.c_size_t)
+    position, number = ctypes.c_uint64, ctypes.c_uint32
     text, memory = ctypes.c_char_p, ctypes.c_void_p
     info, block = ctypes.POINTER(Info), ctypes.POINTER(Block)
+    head, frames, search = (ctypes.POINTER(struct) for struct in (Head, Frames, Search))
     md5, digest = ctypes.POINTER(Md5), ctypes.POINTER(ctypes.c_uint8 * 16)
+    held: List[Any] = [memory, size, position, number]
     frame: List[Any] = [memory, size, to_size, info, memory, size, block, text, size]
     arguments: Dict[str, List[Any]] = {
         "claxon_open": [text, size, info, text, size],
-        "claxon_streaminfo": [text, size, info, text, size],
-        "claxon_next_metadata": [text, size, to_size, ctypes.POINTER(Metadata)],
+        "claxon_head_start": [head, position],
+        "claxon_head_next": [head, *held, info, ctypes.POINTER(Metadata), text, size],
         "claxon_vendor": [text, size] + 3 * [to_size] + [text, size],
         "claxon_next_tag": [text, size, to_size, ctypes.POINTER(Tag), text, size],
-        "claxon_next_block": frame,
+        "claxon_frames_start": [frames, position],
+        "claxon_frames_go_on": [frames, position],
+        "claxon_frames_next": [frames, *held, info, memory, size, block, text, size],
+        "claxon_frames_next_planar": [frames, *held, info, memory, size, block, text, size],
+        "claxon_search_start": [search, position],
+        "claxon_search_go_on": [search, position],
+        "claxon_search_next": [search, *held, info, ctypes.POINTER(position), block],
         "claxon_next_block_planar": frame,
-        "claxon_find_frame": [memory, size, to_size, info, ctypes.POINTER(ctypes.c_uint64), block],
-        "claxon_seek": [memory, size, info] + 2 * [ctypes.c_uint64] + [to_size, block],
-        "claxon_crc16": [ctypes.c_uint16, memory, size],
+        "claxon_find_frame": [memory, size, to_size, info, ctypes.POINTER(position), block],
+        "claxon_seek": [memory, size, info, position, position, to_size, block],
         "claxon_md5_start": [md5],
-        "claxon_md5_samples": [md5, memory, size, ctypes.c_uint32],
+        "claxon_md5_samples": [md5, memory, size, number],
         "claxon_md5_finish": [md5, digest],
     }
     for call, types in arguments.items():
         getattr(found, call).argtypes = types
-        getattr(found, call).restype = ctypes.c_uint32
-    found.claxon_crc16.restype = ctypes.c_uint16
-    for call in ("claxon_md5_start", "claxon_md5_finish"):
-        getattr(found, call).restype = None
+        is_silent = call.endswith(("_start", "_go_on", "_finish"))
+        getattr(found, call).restype = None if is_silent else number
 
 
 def _version_text(version: int) -> str:
@@ -154,10 +208,6 @@ def _version_text(version: int) -> str:
 
 
 library = _load_library()
-
-
-# The CRC of each byte alone, by which a CRC is continued faster than by a call for each byte.
-CRC_OF_BYTE = [library.claxon_crc16(0, bytes([byte]), 1) for byte in range(256)]
 
 
 def library_version() -> str:

@@ -1,9 +1,11 @@
 """The head of a stream, of which metadata blocks are read one after another."""
 import ctypes
-from typing import Callable, Dict, Generator, List, Optional, Tuple, TypeVar
+from typing import Callable, Dict, List, Optional, Tuple, TypeVar
 
-from claxon._calls import CUE_SHEET, ERROR_SIZE, INPUT_ENDS, NO_MORE, OK, PICTURE, SEEK_TABLE
-from claxon._calls import STREAMINFO, VORBIS_COMMENT, Info, Metadata, Tag, library
+from claxon import _calls
+from claxon._calls import CUE_SHEET, ERROR_SIZE, METADATA_CONTENT, METADATA_HEADER, NEED_MORE
+from claxon._calls import NO_MORE, OK, PICTURE, SEEK_TABLE, STREAMINFO, VORBIS_COMMENT, Info
+from claxon._calls import Metadata, Tag, library
 from claxon._errors import Error, FormatError, fault_of
 from claxon._pictures import Picture, picture_of
 from claxon._tables import CueSheet, SeekPoint, points_of, sheet_of
@@ -11,11 +13,7 @@ from claxon._tags import Tags
 from claxon._types import StreamInfo
 from claxon._window import Window
 
-_MAX_BLOCKS = 65536  # of metadata, that claxon_open reads
 _STEP = 1 << 16  # bytes that are read at once
-
-# Stands for a metadata block whose content is skipped: padding, with no content.
-_SKIPPED = b"\x01\x00\x00\x00"
 
 _Parsed = TypeVar("_Parsed")
 _Blocks = List[Tuple[int, bytes]]  # where blocks begin, and their content
@@ -35,30 +33,41 @@ class Head:
         kept = (SEEK_TABLE, CUE_SHEET, PICTURE) if has_pictures else (SEEK_TABLE, CUE_SHEET)
         self._kept: Dict[int, _Blocks] = {kind: [] for kind in kept}
         self._pictures: List[Picture] = []
-        self._rest: Optional[Generator[int, None, None]] = self._read()
+        self._kept_now: Optional[bytearray] = None  # of the block at hand, if it is kept
+        self._state, self._metadata = _calls.Head(), Metadata()
+        library.claxon_head_start(self._state, window.position())
+        self._is_over = False
 
     def is_over(self) -> bool:
         """Whether nothing of it is left to be read."""
-        return self._rest is None
+        return self._is_over
 
     def give_up(self) -> None:
         """Reads no more of it."""
-        self._rest = None
+        self._is_over = True
 
     def go_on(self) -> bool:
         """Reads the head as far as its bytes are there. Returns whether it is complete."""
-        while self._rest is not None:
-            count = next(self._rest, None)
-            if count is None:
-                self._rest = None
-            elif not self._window.fill(min(count, _STEP)) and not self._window.has_ended:
+        window, state = self._window, self._state
+        while not self._is_over:
+            self._collect()
+            window.skip_to(state.position, _STEP)
+            status = self._next_part()
+            if status == OK:
+                self._take_part()
+            elif status == NO_MORE:
+                self._is_over = True
+                self.info.first_frame = 0  # the frames are shown without the head
+            elif status != NEED_MORE:
+                raise self._fault(status, state.begin)
+            elif not window.fill(self._missing()) and not window.has_ended:
                 return False
         return True
 
     def tags(self) -> Tags:
         if self._tags is None:
             tags = self._read_tags()
-            if self._rest is not None:
+            if not self._is_over:
                 return tags
             self._tags, self._comments = tags, b""
         return self._tags
@@ -83,81 +92,57 @@ class Head:
 
     # ---- reading
 
-    def _read(self) -> Generator[int, None, None]:
-        """Reads the metadata blocks one after another. Yields how many more bytes are needed.
-
-        claxon_open names the faults. It is shown each block after the marker, the streaminfo and
-        the comments alone, so that no other content has to be kept.
-        """
+    def _next_part(self) -> int:
         window = self._window
-        head = yield from window.show(4)
-        self._expect_no_fault(head, len(head) == 4, 0)
-        window.at.value += len(head)
-        streaminfo, comments = b"", b""
-        for _ in range(_MAX_BLOCKS):
-            position = window.position()
-            header = yield from window.take(4)
-            self._expect_no_fault(head + streaminfo + header, len(header) == 4, position)
-            metadata = _next_metadata(header)
-            if metadata.type not in (STREAMINFO, VORBIS_COMMENT):
-                is_whole = yield from self._pass_metadata(metadata, position)
-                before, block = streaminfo, _SKIPPED if is_whole else header
-            else:
-                content = yield from window.take(metadata.length)
-                is_whole = len(content) == metadata.length
-                before, block = streaminfo + comments, header + content
-            self._expect_no_fault(head + before + block, is_whole, position)
-            if metadata.type == STREAMINFO:
-                streaminfo = block
-                self._keep_info(content)
-            elif metadata.type == VORBIS_COMMENT:
-                comments = block
-                self._comments = content
-                self.vendor = self._read_vendor()
-            if metadata.is_last:
-                break
-        else:
-            # Too many blocks: as many empty ones have the same fault.
-            others = (_MAX_BLOCKS - 1) * _SKIPPED
-            self._expect_no_fault(head + streaminfo + others, False, window.position())
-
-    def _pass_metadata(self, metadata: Metadata, position: int) -> Generator[int, None, bool]:
-        """Passes the content of a metadata block. It is kept of the first seek table and the first
-        cue sheet, and of all pictures, if they are wanted.
-        """
-        blocks = self._kept.get(metadata.type)
-        if blocks is None or (blocks and metadata.type != PICTURE):
-            return (yield from self._window.skip(metadata.length))
-        content = yield from self._window.take(metadata.length)
-        if len(content) < metadata.length:
-            return False
-        blocks.append((position, content))
-        return True
-
-    def _expect_no_fault(self, head: bytes, is_whole: bool, position: int) -> None:
-        """Raises what claxon_open says of these bytes, but that they end only if they are cut."""
-        info = Info()
-        status = library.claxon_open(head, len(head), info, self._error, ERROR_SIZE)
-        if status != OK and not (status == INPUT_ENDS and is_whole):
-            raise self._fault(status, position)
-
-    def _keep_info(self, content: bytes) -> None:
-        """Keeps what the content of a streaminfo says, in which no fault was found."""
-        info = self.info
-        status = library.claxon_streaminfo(content, len(content), info, self._error, ERROR_SIZE)
-        if status != OK:
-            raise self._fault(status, 4)
-        self.streaminfo = StreamInfo(
-            min_block_size=info.min_block_size,
-            max_block_size=info.max_block_size,
-            min_frame_size=info.min_frame_size or None,
-            max_frame_size=info.max_frame_size or None,
-            sample_rate=info.sample_rate,
-            channels=info.channels,
-            bits_per_sample=info.bits_per_sample,
-            samples=info.samples or None,
-            md5=bytes(info.md5) if any(info.md5) else None,
+        status: int = library.claxon_head_next(
+            self._state,
+            window.address + window.at.value,
+            window.end - window.at.value,
+            window.position(),
+            window.has_ended,
+            self.info,
+            self._metadata,
+            self._error,
+            ERROR_SIZE,
         )
+        return status
+
+    def _missing(self) -> int:
+        """How many bytes are to be read at once."""
+        window = self._window
+        end = int(self._state.position + self._state.needed)
+        return min(_STEP, end - window.start - window.end)
+
+    def _collect(self) -> None:
+        """Takes what is held of the content of a block that is kept, but for its last byte, which
+        shows that the content is whole.
+        """
+        window, kept = self._window, self._kept_now
+        while kept is not None and window.position() < self._state.position:
+            part = window.bytes_from(window.position(), self._state.position - window.position())
+            kept += part
+            window.pass_to(window.position() + len(part))
+            if not part and not window.fill(_STEP):
+                break
+
+    def _take_part(self) -> None:
+        """Keeps what is wanted of the part that was read."""
+        metadata, window = self._metadata, self._window
+        kind, is_content = metadata.type, self._state.part == METADATA_CONTENT
+        blocks = self._kept.get(kind)
+        if self._state.part == METADATA_HEADER:
+            is_kept = blocks is not None and (kind == PICTURE or not blocks)
+            self._kept_now = bytearray() if is_kept else None
+            window.pass_to(metadata.content)
+        elif is_content and blocks is not None and self._kept_now is not None:
+            self._kept_now += window.bytes_from(window.position(), min(1, metadata.length))
+            blocks.append((metadata.content - 4, bytes(self._kept_now)))
+            self._kept_now = None
+        elif is_content and kind == STREAMINFO:
+            self.streaminfo = _streaminfo_of(self.info)
+        elif is_content and kind == VORBIS_COMMENT:
+            self._comments = window.bytes_from(metadata.content, metadata.length)
+            self.vendor = self._read_vendor()
 
     def _read_vendor(self) -> str:
         content = self._comments
@@ -189,11 +174,18 @@ class Head:
         return fault_of(status, self._error.value.decode("utf-8"), position)
 
 
-def _next_metadata(header: bytes) -> Metadata:
-    """What the four bytes of a metadata block's header say."""
-    metadata = Metadata()
-    library.claxon_next_metadata(header, len(header), ctypes.c_size_t(0), metadata)
-    return metadata
+def _streaminfo_of(info: Info) -> StreamInfo:
+    return StreamInfo(
+        min_block_size=info.min_block_size,
+        max_block_size=info.max_block_size,
+        min_frame_size=info.min_frame_size or None,
+        max_frame_size=info.max_frame_size or None,
+        sample_rate=info.sample_rate,
+        channels=info.channels,
+        bits_per_sample=info.bits_per_sample,
+        samples=info.samples or None,
+        md5=bytes(info.md5) if any(info.md5) else None,
+    )
 
 
 def _parsed(parse: Callable[[bytes], _Parsed], position: int, content: bytes) -> _Parsed:

@@ -40,7 +40,7 @@ class Report:
     md5: Optional[str]  # "ok", "wrong", "none" (the streaminfo has none) or "not computed"
     computed_md5: Optional[str]  # of the samples that were decoded, in hexadecimal digits
     places: Tuple[Place, ...]  # what isn't right, and where
-    left_out: int  # the number of places that aren't in `places`, as memory was refused
+    left_out: int  # the number of places after those in `places`
     notes: Tuple[str, ...]  # what is unusual, and not wrong
     reason: Optional[str]  # why it isn't supported or read, or what is wrong with its head
     members: Mapping[str, Any]  # all of the program's object of JSON

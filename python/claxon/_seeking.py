@@ -4,18 +4,21 @@ from dataclasses import dataclass
 from typing import Optional
 
 from claxon._calls import NO_MORE, OK, OUT_OF_MEMORY, OVER_BUDGET, library
-from claxon._frames import MAX_WASTED, WASTED_PER_BYTE, Frames
+from claxon._frames import Frames
 from claxon._window import FIRST_WINDOW
 
 _MAX_HEADER_BYTES = 16  # of a frame
 _SEEK_STEP = 1 << 14  # bytes that are read at once to find a header: most frames have fewer
 
 # For a call that reads a header alone.
-_NO_SAMPLES = (ctypes.c_int32 * 1)()
+_NO_SAMPLES, _NO_TEXT = (ctypes.c_int32 * 1)(), ctypes.create_string_buffer(1)
 
 # How many headers are read at most to guess where a frame is, and how many before each other step
 # halves the bytes.
 _MAX_GUESSES, _GUESSES_BY_TIME = 96, 8
+
+# The bytes and samples of tries that may lead to no frame, and how many more for each byte.
+_MAX_WASTED, _WASTED_PER_BYTE = 1 << 25, 4
 
 
 @dataclass
@@ -50,6 +53,7 @@ class Seeker:
         self._info = frames.info
         self._found = frames.found
         self._first_frame = first_frame
+        self._wasted = 0  # bytes and samples of tries that led to no frame
         self._samples = samples  # of the whole stream, if it says so
 
     def seek(self, sample: int) -> bool:
@@ -58,7 +62,7 @@ class Seeker:
         """
         window, position = self._window, self._window.position()
         length = window.length()
-        self._frames.wasted = 0
+        self._wasted = 0
         self._frames.forget()
         is_found = False
         try:
@@ -117,12 +121,12 @@ class Seeker:
         window, position = self._window, self._window.position()
         while self._finds_header(position, end):
             position = window.position()
-            if self._frames.wasted > MAX_WASTED + WASTED_PER_BYTE * position:
+            if self._wasted > _MAX_WASTED + _WASTED_PER_BYTE * position:
                 return False
             if self._has_sample(sample):
                 if self._is_frame():
                     return True
-                self._frames.wasted += window.held()
+                self._wasted += window.held() + self._frames.count()
             position += 1
         return False
 
@@ -140,10 +144,25 @@ class Seeker:
             if window.position() >= end:
                 return False
             if status == OVER_BUDGET:
-                self._frames.call(window.end, ctypes.addressof(_NO_SAMPLES), 0)
+                self._read_header()
                 return True
             if not window.fill(_SEEK_STEP):
                 return False
+
+    def _read_header(self) -> None:
+        """Reads what the header that the next bytes have says of its block."""
+        window = self._window
+        library.claxon_next_block_planar(
+            window.address,
+            window.end,
+            window.at,
+            self._info,
+            _NO_SAMPLES,
+            0,
+            self._found,
+            _NO_TEXT,
+            len(_NO_TEXT),
+        )
 
     def _has_sample(self, sample: int) -> bool:
         """Whether the block has it whose header was found."""

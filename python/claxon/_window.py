@@ -1,9 +1,9 @@
 """The bytes of a stream that are held."""
 import ctypes
 from array import array
-from typing import Generator, Optional, Union
+from typing import Optional, Union
 
-from claxon._calls import CRC_OF_BYTE, MAX_FRAME_BYTES, library
+from claxon._calls import MAX_FRAME_BYTES
 from claxon._files import Source
 
 FIRST_WINDOW = 1 << 18  # bytes
@@ -12,9 +12,7 @@ FIRST_WINDOW = 1 << 18  # bytes
 class Window:
     """Bytes that were read or handed in, and aren't decoded yet.
 
-    It is doubled where a frame doesn't fit, and a frame that isn't whole is tried again where twice
-    the bytes are there, so that the time is linear in the number of bytes. A frame is tried too
-    where the CRC of its bytes is 0, as after its last one.
+    It is doubled where a frame doesn't fit.
     """
 
     def __init__(self, source: Optional[Source]) -> None:
@@ -25,13 +23,14 @@ class Window:
         self.end = 0  # the number of bytes in it
         self.start = 0  # the position in the file of its first byte
         self.has_ended = False  # whether no more bytes come
-        self.tried = 0  # so many bytes of the next frame aren't a whole one
-        self.guesses = 0  # how often it was tried in vain for its CRC
-        self._summed, self._crc = 0, 0  # the CRC of so many of its bytes
 
     def position(self) -> int:
         """The position in the file of the next frame."""
         return self.start + self.at.value
+
+    def pass_to(self, position: int) -> None:
+        """Passes the bytes before this position, or all."""
+        self.at.value = min(position - self.start, self.end)
 
     def held(self) -> int:
         """The number of bytes that the next frame may have."""
@@ -41,13 +40,10 @@ class Window:
         """The byte at this position in the file, of a frame that was decoded last."""
         return self._bytes[position - self.start]
 
-    def first_bytes(self) -> bytes:
-        """Some of the first bytes of the next frame."""
-        return self._bytes[self.at.value : min(self.at.value + 4, self.end)].tobytes()
-
-    def begin_frame(self) -> None:
-        """Forgets what is known of the next frame."""
-        self.tried, self.guesses, self._summed, self._crc = 0, 0, 0, 0
+    def bytes_from(self, position: int, count: int) -> bytes:
+        """Some of the bytes that are held: so many from this position on, or fewer."""
+        start = position - self.start
+        return self._bytes[start : min(start + count, self.end)].tobytes()
 
     def fill(self, most: int) -> bool:
         """Reads once, at most so many bytes. False where none come, or not from a file."""
@@ -87,56 +83,19 @@ class Window:
             self._bytes.frombytes(bytes(size - len(self._bytes)))
             self.address = self._bytes.buffer_info()[0]
 
-    def show(self, count: int) -> Generator[int, None, bytes]:
-        """The same bytes as `take`, which aren't passed."""
-        while self.held() < count and not self.has_ended:
-            yield count - self.held()
-        return self._bytes[self.at.value : min(self.at.value + count, self.end)].tobytes()
-
-    def take(self, count: int) -> Generator[int, None, bytes]:
-        """This number of bytes; fewer where they end. Yields how many more are needed."""
-        parts = []
-        while count:
-            part = self._bytes[self.at.value : min(self.at.value + count, self.end)].tobytes()
-            self.at.value += len(part)
-            parts.append(part)
-            count -= len(part)
-            if count and self.has_ended and self.at.value == self.end:
-                break
-            if count:
-                yield count
-        return b"".join(parts)
-
-    def skip(self, count: int) -> Generator[int, None, bool]:
-        """Passes this number of bytes. False where they end before. Yields as `take`."""
-        while count:
-            part = min(count, self.end - self.at.value)
-            self.at.value += part
-            count -= part
-            if count and self.has_ended:
-                return False
-            # The last byte is read: one can seek past the end of a file.
-            if self._source is not None and count and self._source.passes(count - 1):
-                self.start += count - 1
-                count = 1
-            if count:
-                yield count
-        return True
-
-    def has_footer(self) -> bool:
-        """Whether the CRC is 0 after a byte that wasn't tried. It is summed up to there."""
-        if self._summed < self.tried:
-            start, count = self.address + self.at.value + self._summed, self.tried - self._summed
-            self._crc = library.claxon_crc16(self._crc, start, count)
-            self._summed = self.tried
-        crc, start = self._crc, self.at.value
-        for index, byte in enumerate(self._bytes[start + self._summed : start + self.held()], 1):
-            crc = (crc << 8 & 0xFFFF) ^ CRC_OF_BYTE[crc >> 8 ^ byte]
-            if not crc:
-                self._summed, self._crc = self._summed + index, crc
+    def skip_to(self, position: int, step: int) -> bool:
+        """Passes the bytes before this position, also those that have to be read, at most so many
+        at once. False where they end before, or more have to be handed in.
+        """
+        while True:
+            self.pass_to(position)
+            count = position - self.position()
+            if not count:
                 return True
-        self._summed, self._crc = self.held(), crc
-        return False
+            if self._source is not None and not self.has_ended and self._source.passes(count):
+                self.start += count
+            elif not self.fill(min(count, step)):
+                return False
 
     def can_seek(self) -> bool:
         return self._source is not None and self._source.can_seek()
@@ -154,4 +113,3 @@ class Window:
             self._source.go_to(position)
         self.at.value = position - self.start
         self.has_ended = False
-        self.begin_frame()

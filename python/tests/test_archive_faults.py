@@ -200,7 +200,7 @@ class Poison(Archive):
 
     def test_memory(self) -> None:
         """What decodes an object is refused memory."""
-        real = batch._row
+        real = batch._right_row
 
         def row(file: batch.File, *more: Any) -> batch.Row:
             if b"poison" in file[0]:
@@ -210,7 +210,7 @@ class Poison(Archive):
         results = Results(str(self.results), is_new=True)
         wanted = Wanted([os.fsencode(self.files)], 2, None, None, False)
         with mock.patch.dict(os.environ, {"CLAXON_PROGRAM": self.program}):
-            with mock.patch.object(batch, "_row", row):
+            with mock.patch.object(batch, "_right_row", row):
                 run(wanted, results, Progress())
         results.close()
         self.check_poison("memory is refused")

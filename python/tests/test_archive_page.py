@@ -96,7 +96,11 @@ class Kinds(unittest.TestCase):
     def test_streams(self) -> None:
         """The kind of each small stream that isn't right, by its name."""
         wanted = (
-            (r"(two frames swapped|overwritten|missing|from 1 on|a gap)", "frames are missing"),
+            (r"swapped|too early", "frames are out of order"),
+            (r"^the last frame missing|^(33|48|[0-9]{11}) samples in", "cut off before the end"),
+            (r"overwritten|missing|from 1 on|a gap", "frames are missing"),
+            (r"^a second stream", "a second stream after the first"),
+            (r"^two frames twice$", "another number of samples"),
             (r"twice", "frames are repeated"),
             (r"strategy|fixed|^a streaminfo|a frame of", "frames differ from the streaminfo"),
             (r"^a sample of|^wide samples|^right of", "frames differ from the streaminfo"),
@@ -106,7 +110,7 @@ class Kinds(unittest.TestCase):
             (r"^(an empty file|41 bytes)$", "cut off before the end"),
             (r"^another marker$", "no head of a FLAC file"),
             (r"^an (ID3v1|APE) tag after$|^a tag, unknown", "only a tag after the last frame"),
-            (r"flipped|^bytes between|, damaged$|^a negative shift", "frames can't be decoded"),
+            (r"flipped|^bytes between|damage|^a negative shift", "frames can't be decoded"),
             (r"after", "only other bytes after the last frame"),
         )
         for row in ROWS.values():

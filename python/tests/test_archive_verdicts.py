@@ -7,8 +7,9 @@ import subprocess
 import time
 import unittest
 from subprocess import DEVNULL
-from typing import Dict
+from typing import Dict, Tuple
 
+from claxon.archive.results import DueFile, Results
 from tests import TOP
 from tests.archives import LOG, OTHER_SUM, RIGHT, ROWS, TAG, WRONG, Archive, Kept, python_with
 
@@ -313,6 +314,61 @@ class History(Kept):
         self.run_files()
         select = f"SELECT path FROM files WHERE sum = '{RIGHT.data[26:42].hex()}'"
         self.assertEqual([row[0] for row in self.query(select)], names)
+
+    def test_forgotten(self) -> None:
+        """The history of a file that was forgotten goes on when it is there again."""
+        self.write("0.flac", RIGHT)
+        path = self.write("1.flac", RIGHT)
+        self.run_files()
+        os.unlink(path)
+        self.assertEqual(self.run_files("--forget-missing").status, 0)
+        self.assertEqual(len(self.by_path()), 1)
+        self.write("1.flac", RIGHT)
+        self.write("2.flac", RIGHT)
+        self.run_files()
+        found = self.query("SELECT path, number, verdict, before FROM history")
+        names = [(name[-6:], *others) for name, *others in found]
+        right = ("ok", None)
+        self.assertEqual(
+            names,
+            [(b"0.flac", 1, *right), (b"1.flac", 1, *right), (b"1.flac", 2, *right)]
+            + [(b"2.flac", 1, *right)],
+        )
+
+    def test_new(self) -> None:
+        """Rows of files that are new are put in ways of their own, with the same result: also many,
+        between others, of a file that was forgotten, and of one that is found twice."""
+        kept = []
+        for is_new in (0, 1):
+            results = Results(str(self.folder / f"{is_new}.sqlite"), is_new=True)
+            results.start_listing([])
+            results.start_run()
+            self.put_many(results, is_new)
+            tables = ("files", "history")
+            kept.append([results.select(f"SELECT * FROM {name}", []) for name in tables])
+            results.close()
+        self.assertEqual(kept[0], kept[1])
+        self.assertEqual([len(rows) for rows in kept[0]], [358, 361])
+
+    def put_many(self, results: Results, is_new: int) -> None:
+        def put(verified: int, *rows: Tuple[int, str]) -> None:
+            no, paths = None, [b"/\xff%03d" % name for name, _ in rows]
+            found = {path: DueFile(path, 9, 3, 4, 5, is_new) for path in paths}
+            told = [
+                (path, 9, 2, verified, verdict, 6, "ok", no, no, no, no, no, "7", 8, no, "00")
+                for path, (_, verdict) in zip(paths, rows)
+            ]
+            results.put(told, found)  # type: ignore
+
+        put(10, *((name, "ok") for name in range(0, 400, 2)))
+        put(11, *((name, "ok") for name in range(399, 250, -1) if name % 2))
+        put(12, (1, "ok"), (3, "wrong"), (5, "not read"), (7, "ok"), (9, "ok"))
+        results.select("DELETE FROM files WHERE path IN (?, ?)", [b"/\xff000", b"/\xff398"])
+        put(13, (0, "ok"), (398, "ok"))
+        put(14, (500, "ok"), (501, "ok"))
+        put(15, (501, "ok"), (502, "ok"), (1, "wrong"))
+        results.select("DELETE FROM files WHERE path = ?", [b"/\xff502"])
+        put(16, *((name, "ok") for name in range(600, 675)), (502, "ok"))
 
     def test_path_text(self) -> None:
         self.write("live/é 'x'.flac", RIGHT)

@@ -1,4 +1,5 @@
-"""The examples of README.md, and verify.py."""
+"""The examples of README.md, verify.py and listen.py."""
+import asyncio
 import contextlib
 import doctest
 import hashlib
@@ -18,9 +19,10 @@ import claxon
 from claxon import _calls
 from streams.frames import MARKER, metadata_block
 from tests import DATA, FRAME_OF_5, STREAMINFO, TOP, FolderCase, copy_module, verbatim_frame
+from tests.test_live import Stream, made_stream
 
 PYTHON = TOP / "python"
-VERIFY = PYTHON / "examples" / "verify.py"
+EXAMPLES = PYTHON / "examples"
 
 # What these examples show takes numpy.
 WITH_NUMPY = ("Read", "Play from a place")
@@ -49,7 +51,7 @@ class Folder(FolderCase):
         (self.folder / "player").mkdir()
         (self.folder / "c" / "out").mkdir(parents=True)
         shutil.copy(_calls.library._name, self.folder / "c" / "out" / "libclaxon.so.0.3")
-        shutil.copytree(VERIFY.parent, self.folder / "python" / "examples")
+        shutil.copytree(EXAMPLES, self.folder / "python" / "examples")
         copy_module(self.folder / "python")
         song = bytearray((TOP / "examples" / "tagged.flac").read_bytes())
         (self.folder / "song.flac").write_bytes(song)
@@ -102,8 +104,8 @@ class Readme(Folder):
         self.assertEqual(len(examples()), 9)
 
 
-def loaded_verify() -> ModuleType:
-    spec = importlib.util.spec_from_file_location("verify", VERIFY)
+def loaded(name: str) -> ModuleType:
+    spec = importlib.util.spec_from_file_location(name, EXAMPLES / f"{name}.py")
     assert spec and spec.loader
     module = importlib.util.module_from_spec(spec)
     spec.loader.exec_module(module)
@@ -123,7 +125,7 @@ class Verify(Folder):
         path = self.folder / "stream.flac"
         path.write_bytes(stream)
         with contextlib.redirect_stdout(io.StringIO()) as output:
-            is_right = loaded_verify().verify(str(path))
+            is_right = loaded("verify").verify(str(path))
         name, line = output.getvalue().split(": ", 1)
         self.assertEqual(name, str(path))
         return is_right, line
@@ -198,3 +200,43 @@ class Verify(Folder):
         os.rename(self.folder / song, os.fsencode(self.folder) + b"/\xff.flac")
         run = subprocess.run([*command, b"\xff.flac"], cwd=self.folder, stdout=PIPE)
         self.assertEqual(run.stdout, b"\xff.flac: ok, 3 frames, 9876 samples\n")
+
+
+class Listen(FolderCase):
+    def test_blocks(self) -> None:
+        """Each block comes with the last byte of its frame."""
+        stream = made_stream((1,))
+        for piece in (1460, 65536):
+            asyncio.run(self.expect_blocks(stream, piece))
+
+    async def expect_blocks(self, stream: Stream, piece: int) -> None:
+        reader, given = asyncio.StreamReader(), 0
+        blocks = loaded("listen").blocks(reader)
+        for at in range(0, len(stream.content), piece):
+            reader.feed_data(stream.content[at : at + piece])
+            while given < stream.frames_within(at + piece):
+                block = await asyncio.wait_for(blocks.__anext__(), 60)
+                self.assertEqual(block.planar.tolist(), stream.samples[given])
+                given += 1
+        reader.feed_eof()
+        self.assertEqual([block async for block in blocks], [])
+
+    def test_program(self) -> None:
+        """It prints a line for each block that a server sends."""
+        asyncio.run(self.expect_lines())
+
+    async def expect_lines(self) -> None:
+        async def send(_: asyncio.StreamReader, writer: asyncio.StreamWriter) -> None:
+            writer.write(stream_with(8, 1, 0, bytes(16), 3 * verbatim_frame([[1, -7, 5]])))
+            writer.close()
+
+        server = await asyncio.start_server(send, "127.0.0.1")
+        port = server.sockets[0].getsockname()[1]
+        library = {"PYTHONPATH": str(PYTHON), "CLAXON_LIBRARY": _calls.library._name}
+        command = [sys.executable, str(EXAMPLES / "listen.py"), "127.0.0.1", str(port)]
+        program = await asyncio.create_subprocess_exec(
+            *command, stdout=PIPE, env={**os.environ, **library}
+        )
+        found, _ = await program.communicate()
+        server.close()
+        self.assertEqual(found.decode().splitlines(), 3 * ["0 7"])

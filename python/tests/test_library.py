@@ -11,9 +11,10 @@ from claxon import _calls
 from tests import FolderCase, copy_module
 
 # The calls of the library that the module needs, but for that of its version.
-CALLS = ["open", "streaminfo", "next_metadata", "vendor", "next_tag", "next_block"]
-CALLS += ["next_block_planar", "find_frame", "seek"]
-CALLS += ["crc16", "md5_start", "md5_samples", "md5_finish"]
+CALLS = ["open", "head_start", "head_next", "vendor", "next_tag", "next_block_planar"]
+CALLS += ["frames_start", "frames_go_on", "frames_next", "frames_next_planar"]
+CALLS += ["search_start", "search_go_on", "search_next", "find_frame", "seek"]
+CALLS += ["md5_start", "md5_samples", "md5_finish"]
 
 
 class Library(FolderCase):

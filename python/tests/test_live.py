@@ -12,10 +12,8 @@ import unittest
 from array import array
 from types import FrameType
 from typing import Any, BinaryIO, Callable, Iterator, List, NamedTuple, Optional, Tuple
-from unittest import mock
 
 import claxon
-from claxon import _calls
 from claxon._window import FIRST_WINDOW
 from streams.frames import MARKER, constant, crc16, frame, frame_header, metadata_block, verbatim
 from streams.frames import with_crc16
@@ -171,9 +169,8 @@ class Pieces(unittest.TestCase):
                 file.limit = end
                 self.assertEqual(next(blocks).planar.tolist(), samples)
 
-    @mock.patch("claxon._frames.MAX_WASTED", 1 << 19)
     def test_feed(self) -> None:
-        """Of bytes that are handed in, each whole block is given, and few are tried in vain."""
+        """Of bytes that are handed in, each whole block is given."""
         for stream, piece in streams_in_pieces():
             feed, found = claxon.Feed(), []
             for at in range(0, stream.ends[-1], piece):
@@ -305,11 +302,10 @@ class LargeFrames(unittest.TestCase):
             self.expect_fed(stream, piece)
         self.expect_fed(first_frames(stream, 1), 61)
 
-    @mock.patch("claxon._frames.MAX_WASTED", 1 << 21)
     def test_little_is_wasted(self) -> None:
         """What is tried in vain is made good by the bytes and samples of each frame."""
         feed = self.expect_fed(stream_of_large_frames(), 1460)
-        self.assertLess(feed._frames.wasted, 1 << 21)
+        self.assertLess(feed._frames._next.wasted, 1 << 21)
 
     def test_file_objects(self) -> None:
         """A read before a block is given would wait for ever."""
@@ -321,8 +317,28 @@ class LargeFrames(unittest.TestCase):
             file.limit = end
             self.assertEqual(next(blocks).planar.tolist(), samples)
 
+    def test_above_2_mib(self) -> None:
+        """Each sample takes as many bits as it is far from 0, twice."""
+        source = random.Random(8)
+        samples = [source.randrange(-256, 256) for _ in range(65535)]
+        folded = (2 * sample if sample >= 0 else -2 * sample - 1 for sample in samples)
+        # A fixed predictor of order 0, and one Rice code whose parameter is 0.
+        bits = "00010000" + 10 * "0" + "".join(number * "0" + "1" for number in folded)
+        long = frame(frame_header(65535, 0, rate_code=9), [bits])
+        self.assertGreater(len(long), 2 << 20)
+        content = head() + long + long
+        ends = [len(head()) + len(long), len(content)]
+        stream = Stream(content, ends, [samples, samples])
+        for piece in (100, 1460):
+            self.expect_fed(stream, piece)
+        file = Limited(content, 1460, ends[0])
+        blocks = claxon.Flac(file).blocks()
+        for end in ends:
+            file.limit = end
+            self.assertEqual(next(blocks).planar.tolist(), samples)
+
     def test_hostile(self) -> None:
-        """The CRC is 0 at nearly each byte: the time is linear, with few tries for each frame."""
+        """The CRC is 0 at nearly each byte: the time is linear."""
         stream = stream_of_large_frames()
         channel = crc16(b"\x02").to_bytes(2, "big") + bytes(2 * 65535 - 2)
         header = large_frame(0, [bytes(2 * 65535)] * 8)[:8]
@@ -330,17 +346,14 @@ class LargeFrames(unittest.TestCase):
         frame = large_frame(0, [first] + 7 * [channel])
         self.assertEqual(frame[-2:], bytes(2))
         content = stream.content[: stream.ends[0] - len(frame)] + 12 * frame
-        name = "claxon_next_block_planar"
-        start, call = time.process_time(), getattr(_calls.library, name)
-        with mock.patch.object(_calls.library, name, side_effect=call) as tries:
-            for piece in (100, 1460):
-                feed, found = claxon.Feed(), 0
-                for at in range(0, len(content), piece):
-                    feed.feed(content[at : at + piece])
-                    found += len(list(feed.blocks()))
-                feed.close()
-                self.assertEqual(found + len(list(feed.blocks())), 12)
-        self.assertLess(tries.call_count, 2 * 12 * 100)
+        start = time.process_time()
+        for piece in (100, 1460):
+            feed, found = claxon.Feed(), 0
+            for at in range(0, len(content), piece):
+                feed.feed(content[at : at + piece])
+                found += len(list(feed.blocks()))
+            feed.close()
+            self.assertEqual(found + len(list(feed.blocks())), 12)
         self.assertLess(time.process_time() - start, 60)
 
 

@@ -157,12 +157,25 @@ class Objects(unittest.TestCase):
         self.assertEqual(_calls.library.claxon_version(), int(declared))
         self.assertEqual(_calls.INTERFACE, int(declared) // 100)
 
+    def test_structs(self) -> None:
+        """They have the layout that the header asserts."""
+        header = (TOP / "c" / "claxon.h").read_text()
+        sizes = re.findall(r"sizeof\(struct claxon_(\w+)\) == (\d+)", header)
+        self.assertEqual(len(sizes), 8)
+        for name, size in sizes:
+            self.assertEqual(ctypes.sizeof(getattr(_calls, name.title())), int(size), name)
+        fields = re.findall(r"offsetof\(struct claxon_(\w+), (\w+)\) == (\d+)", header)
+        for name, field, offset in fields:
+            found = getattr(getattr(_calls, name.title()), field)
+            self.assertEqual(found.offset, int(offset), (name, field))
+
     def test_statuses(self) -> None:
         """Each status of the header is known, and each that is a fault has its class."""
         header = (TOP / "c" / "claxon.h").read_text()
         statuses = header[header.index("enum claxon_status") : header.index("};")]
-        found = {name: int(number) for name, number in re.findall(r"CLAXON_(\w+) = (\d)", statuses)}
-        self.assertEqual(len(found), 8)
+        pairs = re.findall(r"CLAXON_(\w+) = (\d+)", statuses)
+        found = {name: int(number) for name, number in pairs}
+        self.assertEqual(len(found), 9)
         for name, number in found.items():
             self.assertEqual(getattr(_calls, name), number)
         classes = {
@@ -465,16 +478,16 @@ class Damage(unittest.TestCase):
             return mock.patch.object(_calls.library, call, return_value=_calls.OUT_OF_MEMORY)
 
         with claxon.Flac(Trickle(stream, 1)) as flac:
-            with refused("claxon_next_block_planar"):
+            with refused("claxon_frames_next_planar"):
                 self.assertRaises(claxon.OutOfMemory, list, flac.blocks())
             blocks = flac.blocks()
             self.assertEqual(next(blocks).planar.tolist(), [5])
             self.assertRaises(claxon.FormatError, next, blocks)
             place = len(head()) + len(FRAME_OF_5)
-            for call in ("claxon_find_frame", "claxon_next_block_planar"):
-                with refused(call), self.assertRaises(claxon.OutOfMemory) as raised:
+            with refused("claxon_search_next"):
+                with self.assertRaises(claxon.OutOfMemory) as raised:
                     flac.resync()
-                self.assertEqual(raised.exception.position, place + 1)
+            self.assertEqual(raised.exception.position, place + 1)
             self.assertEqual(flac.resync(), len(b"damage"))
             self.assertEqual([block.planar.tolist() for block in flac.blocks()], [[5]])
 

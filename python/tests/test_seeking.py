@@ -351,14 +351,14 @@ class Damage(SeekCase):
     def test_memory_that_is_refused(self) -> None:
         stream = made(20, 300)
         flac = claxon.Flac(io.BytesIO(stream.content()))
-        call = _calls.library.claxon_next_block_planar
+        call = _calls.library.claxon_frames_next_planar
         found = [0]
 
         def refused(*arguments: object) -> int:
             found[0] += 1
             return _calls.OUT_OF_MEMORY if found[0] == 3 else int(call(*arguments))
 
-        with unittest.mock.patch.object(_calls.library, "claxon_next_block_planar", refused):
+        with unittest.mock.patch.object(_calls.library, "claxon_frames_next_planar", refused):
             with self.assertRaises(claxon.OutOfMemory):
                 for sample in range(0, 6000, 300):
                     flac.seek(sample)

@@ -4,7 +4,6 @@ import threading
 import time
 import unittest
 from typing import List
-from unittest import mock
 
 import claxon
 from streams.frames import frame, frame_header
@@ -46,7 +45,6 @@ class Searcher(threading.Thread):
 
 
 class Threads(unittest.TestCase):
-    @mock.patch("claxon._frames.MAX_WASTED", 1 << 40)
     def given_meanwhile(self, frames: int) -> int:
         """How many blocks another stream gave in the middle half of the time that the call took:
         with Python's lock held it would give none.

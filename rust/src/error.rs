@@ -89,10 +89,6 @@ pub(crate) fn format_error<T>(reason: &'static str) -> Result<T> {
     Err(Error::FormatError(reason))
 }
 
-pub(crate) fn unsupported<T>(feature: &'static str) -> Result<T> {
-    Err(Error::Unsupported(feature))
-}
-
 pub(crate) fn end_of_input() -> io::Error {
     io::Error::new(io::ErrorKind::UnexpectedEof, "the bytes end too early")
 }

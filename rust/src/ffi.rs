@@ -3,6 +3,7 @@
 //! Each pointer below is that of a slice or of a reference, with the slice's own length. So it isn't null, even for a
 //! length of 0; what it leads to is initialized and lives as long as the call; and what is written to is borrowed
 //! mutably, so that nothing else of the call overlaps it. The calls keep no pointer, and are safe for any bytes.
+use crate::decoder::Held;
 use std::mem::size_of;
 use std::ops::Range;
 use std::sync::atomic::{AtomicBool, Ordering};
@@ -15,6 +16,7 @@ pub const OUT_OF_MEMORY: u32 = 4;
 pub const NO_MORE: u32 = 5;
 pub const BUFFER_TOO_SMALL: u32 = 6;
 pub const OVER_BUDGET: u32 = 7;
+pub const NEED_MORE: u32 = 100;
 
 /// The version of the interface that is declared here: 0.3.0. Other last two digits are the same interface.
 pub const VERSION: u32 = 300;
@@ -22,7 +24,7 @@ pub const VERSION: u32 = 300;
 /// No status of the library: it has another interface.
 pub const OTHER_VERSION: u32 = u32::MAX;
 
-/// The maximum number of bytes of a frame that a streaminfo can give.
+/// The maximum number of bytes of a frame that a streaminfo can give: more needn't be held.
 pub const MAX_FRAME_BYTES: usize = 16_777_215;
 
 /// `struct claxon_info`. All zeros mean that nothing is known of the stream.
@@ -71,6 +73,66 @@ impl Block {
     }
 }
 
+/// `struct claxon_metadata`.
+#[repr(C)]
+#[derive(Clone, Copy, Debug, Default)]
+pub struct Metadata {
+    pub content: usize,
+    pub length: u32,
+    pub block_type: u8,
+    is_last: u8,
+}
+
+/// `struct claxon_head`.
+#[repr(C)]
+#[derive(Clone, Copy, Debug, Default)]
+pub struct Head {
+    pub position: u64,
+    begin: u64,
+    next: u32,
+    is_last: u8,
+    block_type: u8,
+    length: u32,
+    is_metadata_only: u8,
+    has_comment_option: u8,
+    has_info: u8,
+    has_comment: u8,
+    most: u32,
+    pub needed: usize,
+    part: u32,
+}
+
+/// `struct claxon_frames`.
+#[repr(C)]
+#[derive(Clone, Copy, Debug, Default)]
+pub struct Frames {
+    pub position: u64,
+    tried: usize,
+    summed: usize,
+    crc: u16,
+    is_near: u8,
+    wasted: u64,
+    counted: u64,
+    pub needed: usize,
+}
+
+/// `struct claxon_search`.
+#[repr(C)]
+#[derive(Clone, Copy, Debug, Default)]
+pub struct Search {
+    pub position: u64,
+    tried: usize,
+    summed: usize,
+    crc: u16,
+    is_near: u8,
+    wasted_by_tries: u64,
+    counted_by_tries: u64,
+    wasted: u64,
+    counted: u64,
+    has_passed_over: u8,
+    pub needed: usize,
+}
+
 /// `struct claxon_md5`.
 #[repr(C)]
 #[derive(Clone, Copy, Debug)]
@@ -82,7 +144,8 @@ pub struct Md5 {
 
 // The sizes that `claxon.h` asserts.
 const _: () = assert!(size_of::<Info>() == 64 && size_of::<Tag>() == 32 && size_of::<Block>() == 24);
-const _: () = assert!(size_of::<Md5>() == 88);
+const _: () = assert!(size_of::<Metadata>() == 16 && size_of::<Head>() == 56);
+const _: () = assert!(size_of::<Md5>() == 88 && size_of::<Frames>() == 56 && size_of::<Search>() == 80);
 
 /// A text that the library writes. Its longest one has 92 bytes.
 pub type Text = [u8; 112];
@@ -129,7 +192,45 @@ extern "C" {
         budget: *mut u64,
         block: *mut Block,
     ) -> u32;
-    fn claxon_crc16(crc: u16, bytes: *const u8, length: usize) -> u16;
+    fn claxon_head_start(head: *mut Head, position: u64);
+    fn claxon_head_next(
+        head: *mut Head,
+        bytes: *const u8,
+        length: usize,
+        at: u64,
+        is_end: u32,
+        info: *mut Info,
+        metadata: *mut Metadata,
+        error: *mut u8,
+        error_size: usize,
+    ) -> u32;
+    fn claxon_frames_start(frames: *mut Frames, position: u64);
+    fn claxon_frames_go_on(frames: *mut Frames, position: u64);
+    fn claxon_frames_next_planar(
+        frames: *mut Frames,
+        bytes: *const u8,
+        length: usize,
+        at: u64,
+        is_end: u32,
+        info: *const Info,
+        samples: *mut i32,
+        capacity: usize,
+        block: *mut Block,
+        error: *mut u8,
+        error_size: usize,
+    ) -> u32;
+    fn claxon_search_start(search: *mut Search, position: u64);
+    fn claxon_search_go_on(search: *mut Search, position: u64);
+    fn claxon_search_next(
+        search: *mut Search,
+        bytes: *const u8,
+        length: usize,
+        at: u64,
+        is_end: u32,
+        info: *const Info,
+        found: *mut u64,
+        block: *mut Block,
+    ) -> u32;
     fn claxon_md5_start(md5: *mut Md5);
     fn claxon_md5_samples(md5: *mut Md5, samples: *const i32, count: usize, bits_per_sample: u32) -> u32;
     fn claxon_md5_finish(md5: *const Md5, sum: *mut [u8; 16]);
@@ -261,7 +362,7 @@ pub fn header_of(bytes: &[u8], info: &Info) -> Option<Block> {
 }
 
 /// What a search for a frame of the stream finds in bytes.
-pub enum Search {
+pub enum HeaderSearch {
     Frame(usize),
     /// The header of a block of more samples than the budget has left. No frame begins before it.
     Header(usize),
@@ -271,25 +372,186 @@ pub enum Search {
 }
 
 /// Searches for the first frame. The blocks whose headers are found on the way have no more samples than the budget.
-pub fn find_frame(bytes: &[u8], info: &Info, mut budget: u64) -> Search {
+pub fn find_frame(bytes: &[u8], info: &Info, mut budget: u64) -> HeaderSearch {
     if let Err(failure) = check_library() {
-        return Search::Failed(failure);
+        return HeaderSearch::Failed(failure);
     }
     let (mut at, mut block) = (0, Block::default());
     // SAFETY: as the module says.
     let status = unsafe { claxon_find_frame(bytes.as_ptr(), bytes.len(), &mut at, info, &mut budget, &mut block) };
     match status {
-        OK => Search::Frame(at),
-        OVER_BUDGET => Search::Header(at),
-        NO_MORE => Search::Nothing(at),
-        _ => Search::Failed(Failure { status, text: NO_TEXT }),
+        OK => HeaderSearch::Frame(at),
+        OVER_BUDGET => HeaderSearch::Header(at),
+        NO_MORE => HeaderSearch::Nothing(at),
+        _ => HeaderSearch::Failed(Failure { status, text: NO_TEXT }),
     }
 }
 
-/// The CRC of a frame after these bytes, from what it was before them.
-pub fn crc16(crc: u16, bytes: &[u8]) -> u16 {
-    // SAFETY: as the module says.
-    unsafe { claxon_crc16(crc, bytes.as_ptr(), bytes.len()) }
+/// What the next part of a head is, by the bytes that are held.
+pub enum NextPart {
+    /// The content of the metadata block whose header was read last.
+    Content,
+    /// The marker, or the header of a metadata block.
+    Other,
+    NeedMore,
+    Whole,
+    Failed(Failure),
+}
+
+// The content of a metadata block, as `enum claxon_part` has it.
+const METADATA_CONTENT: u32 = 2;
+
+impl Head {
+    /// From this position on. Where the library has another interface, each later call fails.
+    pub fn start(position: u64) -> Head {
+        let mut head = Head::default();
+        if check_library().is_ok() {
+            // SAFETY: as the module says.
+            unsafe { claxon_head_start(&mut head, position) }
+        }
+        head
+    }
+
+    /// Reads the next part.
+    pub fn next(&mut self, held: Held<'_>, info: &mut Info, metadata: &mut Metadata) -> NextPart {
+        if let Err(failure) = check_library() {
+            return NextPart::Failed(failure);
+        }
+        let mut text = NO_TEXT;
+        // SAFETY: as the module says.
+        let status = unsafe {
+            claxon_head_next(
+                self,
+                held.bytes.as_ptr(),
+                held.bytes.len(),
+                held.position,
+                u32::from(held.is_end),
+                info,
+                metadata,
+                text.as_mut_ptr(),
+                text.len(),
+            )
+        };
+        match status {
+            OK if self.part == METADATA_CONTENT => NextPart::Content,
+            OK => NextPart::Other,
+            NEED_MORE => NextPart::NeedMore,
+            NO_MORE => NextPart::Whole,
+            _ => NextPart::Failed(Failure { status, text }),
+        }
+    }
+}
+
+/// What the next frame of a stream is, by the bytes that are held.
+pub enum NextFrame {
+    Found(Block),
+    /// The samples of this block don't fit.
+    BufferTooSmall(Block),
+    NeedMore,
+    End,
+    Failed(Failure),
+}
+
+impl Frames {
+    /// As `Head::start`.
+    pub fn start(position: u64) -> Frames {
+        let mut frames = Frames::default();
+        if check_library().is_ok() {
+            // SAFETY: as the module says.
+            unsafe { claxon_frames_start(&mut frames, position) }
+        }
+        frames
+    }
+
+    /// From another position on.
+    pub fn go_on(&mut self, position: u64) {
+        // SAFETY: as the module says.
+        unsafe { claxon_frames_go_on(self, position) }
+    }
+
+    /// Decodes the next frame, one channel after another.
+    pub fn next(&mut self, held: Held<'_>, info: &Info, samples: &mut [i32]) -> NextFrame {
+        if let Err(failure) = check_library() {
+            return NextFrame::Failed(failure);
+        }
+        let (mut block, mut text) = (Block::default(), NO_TEXT);
+        // SAFETY: as the module says.
+        let status = unsafe {
+            claxon_frames_next_planar(
+                self,
+                held.bytes.as_ptr(),
+                held.bytes.len(),
+                held.position,
+                u32::from(held.is_end),
+                info,
+                samples.as_mut_ptr(),
+                samples.len(),
+                &mut block,
+                text.as_mut_ptr(),
+                text.len(),
+            )
+        };
+        match status {
+            OK => NextFrame::Found(block),
+            BUFFER_TOO_SMALL => NextFrame::BufferTooSmall(block),
+            NEED_MORE => NextFrame::NeedMore,
+            NO_MORE => NextFrame::End,
+            _ => NextFrame::Failed(Failure { status, text }),
+        }
+    }
+}
+
+/// Where the next frame of a stream is, by the bytes that are held.
+pub enum NextFound {
+    Found(u64),
+    NeedMore,
+    Nothing,
+    Failed(Failure),
+}
+
+impl Search {
+    /// As `Head::start`.
+    pub fn start(position: u64) -> Search {
+        let mut search = Search::default();
+        if check_library().is_ok() {
+            // SAFETY: as the module says.
+            unsafe { claxon_search_start(&mut search, position) }
+        }
+        search
+    }
+
+    /// From another position on.
+    pub fn go_on(&mut self, position: u64) {
+        // SAFETY: as the module says.
+        unsafe { claxon_search_go_on(self, position) }
+    }
+
+    /// Finds the next frame.
+    pub fn next(&mut self, held: Held<'_>, info: &Info) -> NextFound {
+        if let Err(failure) = check_library() {
+            return NextFound::Failed(failure);
+        }
+        let (mut found, mut block) = (0, Block::default());
+        // SAFETY: as the module says.
+        let status = unsafe {
+            claxon_search_next(
+                self,
+                held.bytes.as_ptr(),
+                held.bytes.len(),
+                held.position,
+                u32::from(held.is_end),
+                info,
+                &mut found,
+                &mut block,
+            )
+        };
+        match status {
+            OK => NextFound::Found(found),
+            NEED_MORE => NextFound::NeedMore,
+            NO_MORE => NextFound::Nothing,
+            _ => NextFound::Failed(Failure { status, text: NO_TEXT }),
+        }
+    }
 }
 
 impl Md5 {

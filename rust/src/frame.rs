@@ -1,11 +1,11 @@
 //! Frames, and the blocks of samples that they have.
-use crate::error::{end_of_input, format_error, unsupported, Error, Result};
-use crate::ffi::{self, Failure, Info, NextBlock, MAX_FRAME_BYTES};
+use crate::decoder::{Decoder, Event};
+use crate::error::Result;
+use crate::ffi::{self, Info};
 use crate::input::ReadBytes;
 use crate::metadata::StreamInfo;
-use crate::seek::pass_to_header;
-use crate::source::{Decoded, Lost, FRAME_CAPACITY, MAX_IN_VAIN};
-use std::{io, iter, result, slice};
+use crate::source::FRAME_CAPACITY;
+use std::{iter, slice};
 
 /// A block of samples: of each channel the same number.
 pub struct Block {
@@ -21,7 +21,7 @@ pub struct Block {
 
 impl Block {
     // The buffer has at least its samples.
-    fn new(block: ffi::Block, mut samples: Vec<i32>) -> Block {
+    pub(crate) fn new(block: ffi::Block, mut samples: Vec<i32>) -> Block {
         samples.truncate(block.samples());
         let ffi::Block { time, channels, duration, sample_rate, bits_per_sample } = block;
         Block { time, channels, duration, sample_rate, bits_per_sample, samples }
@@ -142,42 +142,24 @@ pub type FrameResult = Result<Option<Block>>;
 /// reads the frame of a packet of Ogg or MP4.
 pub struct FrameReader<R: ReadBytes> {
     input: R,
-    info: Info,
-    lost: Lost,
-}
-
-// The 14 bits of a sync code, before two that tell more of the frame, and which bits they are.
-const SYNC_CODE: u16 = 0xfff8;
-const SYNC_CODE_BITS: u16 = 0xfffc;
-
-// Why no more bytes are buffered.
-enum Stop {
-    EndOfInput,
-    NotReady(io::Error),
-    Failed(io::Error),
-    TooLong,
-}
-
-// What the buffered bytes begin with.
-enum Attempt {
-    // A frame of so many bytes.
-    Frame(ffi::Block, usize),
-    LacksSyncCode,
-    Fault(Failure),
-    // A part of a frame, with what the library says of it.
-    Part(Stop, u32),
+    decoder: Decoder,
 }
 
 impl<R: ReadBytes> FrameReader<R> {
     /// A reader of the frames of an unknown stream. A frame has to give its bit depth.
     pub fn new(input: R) -> FrameReader<R> {
-        FrameReader { lost: input.lost(), input, info: Info::default() }
+        FrameReader::of(input, Info::default())
     }
 
     /// A reader of the frames of a stream with this streaminfo. A frame may leave its bit depth to the streaminfo; and
     /// where that gives one size for all blocks, the time of a block is a multiple of it.
     pub fn with_streaminfo(input: R, streaminfo: StreamInfo) -> FrameReader<R> {
-        FrameReader { lost: input.lost(), input, info: streaminfo.info() }
+        FrameReader::of(input, streaminfo.info())
+    }
+
+    fn of(input: R, info: Info) -> FrameReader<R> {
+        let decoder = input.decoder().of_stream(info).at(input.position());
+        FrameReader { input, decoder }
     }
 
     /// Reads the next block into this buffer, or into a larger one where that is too short.
@@ -194,25 +176,20 @@ impl<R: ReadBytes> FrameReader<R> {
     /// its bytes end within the frame. Where it fails the bytes before are kept, and the next call begins with the same
     /// frame.
     pub fn read_next_or_eof(&mut self, mut buffer: Vec<i32>) -> FrameResult {
-        self.change_lost(Lost::forget);
         if let Some(decoded) = self.input.take_decoded() {
             self.input.consume(decoded.length);
+            self.decoder = self.decoder.at(self.input.position());
             return Ok(Some(Block::new(decoded.block, decoded.samples)));
         }
-        match self.attempt(&mut buffer) {
-            Attempt::Frame(block, length) => {
-                self.input.consume(length);
-                Ok(Some(Block::new(block, buffer)))
+        let mut is_end = false;
+        loop {
+            let event = self.decoder.decode(self.input.held(is_end), &mut buffer);
+            self.go_to_decoder();
+            match event? {
+                Event::Block(block) => return Ok(Some(block)),
+                Event::NeedMore(_) => is_end = self.input.fill(FRAME_CAPACITY)? == 0,
+                _ => return Ok(None),
             }
-            Attempt::LacksSyncCode => {
-                self.refuse(2);
-                format_error("frame sync code missing")
-            }
-            Attempt::Fault(failure) => {
-                self.refuse(self.length_of_fault(&mut buffer));
-                Err(failure.into())
-            }
-            Attempt::Part(stop, status) => self.stopped(stop, status),
         }
     }
 
@@ -230,262 +207,37 @@ impl<R: ReadBytes> FrameReader<R> {
     ///
     /// An `IoError` where the reader fails. The next call goes on there.
     pub fn resync(&mut self) -> Result<Option<u64>> {
-        let refused = self.lost.refused;
-        if refused > 0 {
-            self.input.go_back(refused);
-            self.pass_one();
-        }
-        while self.go_to_header()? {
-            if self.keep_frame()? {
-                let skipped = self.lost.skipped;
-                self.change_lost(Lost::forget);
-                return Ok(Some(skipped));
+        self.input.go_within(self.decoder.position());
+        let mut is_end = false;
+        loop {
+            let event = self.decoder.resync(self.input.held(is_end));
+            self.go_to_decoder();
+            match event? {
+                Event::Resynced(skipped) => return Ok(Some(skipped)),
+                Event::NeedMore(_) => is_end = self.input.fill(FRAME_CAPACITY)? == 0,
+                _ => return Ok(None),
             }
-            self.pass_one();
         }
-        Ok(None)
+    }
+
+    // Consumes what the decoder is done with.
+    fn go_to_decoder(&mut self) {
+        self.input.go_within(self.decoder.next_position());
+        self.input.note(self.decoder);
     }
 
     /// The wrapped reader.
     pub fn into_inner(self) -> R {
         self.input
     }
-
-    // The bytes that a frame may have.
-    fn bytes(&self) -> &[u8] {
-        let bytes = self.input.buffered();
-        &bytes[..bytes.len().min(MAX_FRAME_BYTES)]
-    }
-
-    // Whether the next two bytes are no sync code. The library refuses them too, by themselves. It isn't asked, so that
-    // going on after each fault through bytes that aren't FLAC costs no more than to look at them. Nothing has stopped
-    // a read then: with fewer than two bytes buffered there was no such fault.
-    fn lacks_sync_code(&self) -> bool {
-        match self.input.buffered() {
-            [first, second, ..] => u16::from_be_bytes([*first, *second]) & SYNC_CODE_BITS != SYNC_CODE,
-            _ => false,
-        }
-    }
-
-    // Buffers the next frame, and decodes it.
-    fn attempt(&mut self, buffer: &mut Vec<i32>) -> Attempt {
-        let mut is_tried = false;
-        loop {
-            let stop = self.buffer_frame(is_tried);
-            if let Some(Stop::NotReady(error)) = stop {
-                return Attempt::Part(Stop::NotReady(error), ffi::INPUT_ENDS);
-            }
-            if self.lacks_sync_code() {
-                return Attempt::LacksSyncCode;
-            }
-            match self.try_block(buffer) {
-                Err(failure) if is_cut(&failure) => {
-                    self.note_try();
-                    if let Some(stop) = stop {
-                        return Attempt::Part(stop, failure.status);
-                    }
-                }
-                tried => {
-                    self.put_back(stop);
-                    return tried.map_or_else(Attempt::Fault, |(block, length)| Attempt::Frame(block, length));
-                }
-            }
-            is_tried = true;
-        }
-    }
-
-    // Decodes the frame that is buffered. The buffer is made as long as its samples need.
-    fn try_block(&self, buffer: &mut Vec<i32>) -> result::Result<(ffi::Block, usize), Failure> {
-        loop {
-            match ffi::next_block(self.bytes(), &self.info, buffer) {
-                NextBlock::Found { block, length } => return Ok((block, length)),
-                NextBlock::BufferTooSmall(block) => buffer.resize(block.samples(), 0),
-                NextBlock::Failed(failure) => return Err(failure),
-            }
-        }
-    }
-
-    // Buffers bytes until the frame is worth a try: more, where those that are buffered were tried.
-    fn buffer_frame(&mut self, is_tried: bool) -> Option<Stop> {
-        let mut needs_more = is_tried;
-        while needs_more || !self.is_worth_a_try() {
-            if self.bytes().len() == MAX_FRAME_BYTES {
-                return Some(Stop::TooLong);
-            }
-            match self.input.fill(FRAME_CAPACITY) {
-                Ok(0) => return Some(Stop::EndOfInput),
-                Ok(_) => needs_more = false,
-                Err(error) if error.kind() == io::ErrorKind::WouldBlock => return Some(Stop::NotReady(error)),
-                Err(error) => return Some(Stop::Failed(error)),
-            }
-        }
-        None
-    }
-
-    // Each try begins anew. So that the time is linear, the bytes are doubled between two of them, but where they seem to
-    // have a footer. Where very many of such tries led to no block, as in a stream that is made for it, no more are made.
-    fn is_worth_a_try(&mut self) -> bool {
-        let (held, tried) = (self.bytes().len(), self.input.tried());
-        if held < 2 || held == tried.bytes {
-            return false;
-        }
-        held >= 2 * tried.bytes || (tried.in_vain <= MAX_IN_VAIN && self.has_footer())
-    }
-
-    // Whether the frame may end in the bytes that weren't tried: after its footer the CRC of all its bytes is 0, and by
-    // chance at one place of 65,536.
-    fn has_footer(&mut self) -> bool {
-        let mut tried = self.input.tried();
-        let bytes = self.input.buffered();
-        let end = bytes.len().min(tried.longest());
-        if tried.summed < tried.bytes {
-            tried.crc = ffi::crc16(tried.crc, &bytes[tried.summed..tried.bytes]);
-            tried.summed = tried.bytes;
-        }
-        let mut is_found = false;
-        while !is_found && tried.summed < end {
-            tried.crc = ffi::crc16(tried.crc, &bytes[tried.summed..tried.summed + 1]);
-            tried.summed += 1;
-            is_found = tried.crc == 0 && tried.may_end_before(&bytes[tried.summed..]);
-        }
-        self.input.note(tried);
-        is_found
-    }
-
-    // Notes that the bytes aren't a whole frame. A try for their CRC was in vain.
-    fn note_try(&mut self) {
-        let (held, mut tried) = (self.bytes().len(), self.input.tried());
-        tried.samples = ffi::header_of(self.bytes(), &self.info).map_or(0, |block| block.samples());
-        if held < 2 * tried.bytes {
-            tried.in_vain += (held + tried.samples) as u64;
-        }
-        tried.bytes = held;
-        self.input.note(tried);
-    }
-
-    // What stopped the last read is for the next call, where this one didn't need it.
-    fn put_back(&mut self, stop: Option<Stop>) {
-        match stop {
-            Some(Stop::EndOfInput) => self.input.put_back(Ok(0)),
-            Some(Stop::Failed(error) | Stop::NotReady(error)) => self.input.put_back(Err(error)),
-            Some(Stop::TooLong) | None => {}
-        }
-    }
-
-    // The result where the frame isn't whole, and no more bytes are buffered.
-    fn stopped(&mut self, stop: Stop, status: u32) -> FrameResult {
-        if let Stop::Failed(error) | Stop::NotReady(error) = stop {
-            return Err(Error::IoError(error));
-        }
-        self.refuse(self.bytes().len());
-        match stop {
-            Stop::TooLong => unsupported("frames of more than 16777215 bytes are not supported"),
-            _ if status == ffi::NO_MORE => Ok(None),
-            _ => Err(Error::IoError(end_of_input())),
-        }
-    }
-
-    // How many bytes show the fault: the fewest that aren't the beginning of a frame. The buffer has the length that the
-    // frame's samples need.
-    fn length_of_fault(&self, buffer: &mut [i32]) -> usize {
-        let mut with = self.length_with_fault(buffer);
-        let mut without = if with > 2 { with / 2 } else { 0 };
-        while with - without > 1 {
-            let middle = without + (with - without) / 2;
-            if self.shows_fault(middle, buffer) {
-                with = middle;
-            } else {
-                without = middle;
-            }
-        }
-        with
-    }
-
-    // As many bytes, or at most twice as many. Half of them don't show it, where they are more than two.
-    fn length_with_fault(&self, buffer: &mut [i32]) -> usize {
-        let all = self.bytes().len();
-        let mut length = 2;
-        while length < all && !self.shows_fault(length, buffer) {
-            length *= 2;
-        }
-        length.min(all)
-    }
-
-    // Whether as many bytes aren't the beginning of a frame.
-    fn shows_fault(&self, length: usize, buffer: &mut [i32]) -> bool {
-        match ffi::next_block(&self.bytes()[..length], &self.info, buffer) {
-            NextBlock::Failed(failure) => !is_cut(&failure),
-            NextBlock::Found { .. } | NextBlock::BufferTooSmall(_) => true,
-        }
-    }
-
-    // Consumes as many bytes of a frame with a fault.
-    fn refuse(&mut self, count: usize) {
-        self.input.consume(count);
-        self.change_lost(|lost| lost.refused = count);
-    }
-
-    fn change_lost(&mut self, change: impl FnOnce(&mut Lost)) {
-        change(&mut self.lost);
-        self.input.note_lost(self.lost);
-    }
-
-    // Passes the first byte of what is no frame.
-    fn pass_one(&mut self) {
-        self.input.consume(1);
-        self.change_lost(|lost| {
-            lost.refused = 0;
-            lost.pass(1);
-        });
-    }
-
-    // Goes to the next header of a frame of the stream, or to the end. Returns whether there is one.
-    fn go_to_header(&mut self) -> Result<bool> {
-        loop {
-            let held = self.input.buffered().len();
-            let is_there = pass_to_header(&mut self.input, &self.info)?;
-            let passed = held - self.input.buffered().len();
-            self.change_lost(|lost| lost.pass(passed));
-            if is_there {
-                return Ok(true);
-            }
-            if self.input.fill(FRAME_CAPACITY)? == 0 {
-                self.input.consume(self.input.buffered().len());
-                return Ok(false);
-            }
-        }
-    }
-
-    // Decodes the frame whose header is buffered, and keeps it for the next call of `read_next_or_eof`. Returns whether
-    // there is one.
-    fn keep_frame(&mut self) -> Result<bool> {
-        if self.lost.is_spent() {
-            return Ok(false);
-        }
-        let mut samples = Vec::new();
-        let tried = match self.attempt(&mut samples) {
-            Attempt::Frame(block, length) => {
-                self.input.keep(Decoded { block, samples, length });
-                return Ok(true);
-            }
-            Attempt::Part(Stop::NotReady(error) | Stop::Failed(error), _) => return Err(Error::IoError(error)),
-            Attempt::Fault(failure) if failure.status == ffi::OUT_OF_MEMORY => return Err(failure.into()),
-            Attempt::Fault(_) => self.length_with_fault(&mut samples),
-            Attempt::Part(..) | Attempt::LacksSyncCode => self.bytes().len(),
-        };
-        self.change_lost(|lost| lost.wasted += (tried + samples.len()) as u64);
-        Ok(false)
-    }
-}
-
-// Whether the bytes ended before the frame did.
-pub(crate) fn is_cut(failure: &Failure) -> bool {
-    failure.status == ffi::INPUT_ENDS || failure.status == ffi::NO_MORE
 }
 
 #[cfg(test)]
 mod tests {
     use super::*;
+    use crate::error::Error;
+    use crate::ffi::NextBlock;
+    use crate::seek::is_cut;
     use std::io::Cursor;
 
     // What a call returns, and how many bytes were consumed by then.
@@ -526,13 +278,6 @@ mod tests {
             steps.push((result, input.position() as usize));
         }
         steps
-    }
-
-    #[test]
-    fn two_bytes_are_refused_as_the_library_refuses_them() {
-        for bytes in (0..=u16::MAX).map(u16::to_be_bytes) {
-            assert_eq!(steps_of_reader(&bytes), steps_of_library(&bytes, &mut [0]), "{bytes:02x?}");
-        }
     }
 
     // Bytes that look random, among them bytes of sync codes and whole frames.

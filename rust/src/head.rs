@@ -1,56 +1,96 @@
 //! The head of a stream: its marker and its metadata blocks.
-use crate::error::{format_error, unsupported, Result};
-use crate::ffi;
+use crate::decoder::Held;
+use crate::error::{Error, Result};
+use crate::ffi::{self, Info, Metadata, NextPart};
 use crate::input::ReadBytes;
-use crate::metadata::{BlockHeader, Content, StreamInfo, VorbisComment};
+use crate::metadata::{StreamInfo, VorbisComment, STREAMINFO, VORBIS_COMMENT};
+use crate::source::METADATA_CAPACITY;
 use crate::FlacReaderOptions;
+use std::io;
 
-// The greatest number of metadata blocks. The format sets no limit.
-const MAX_BLOCKS: u32 = 65536;
+/// A head whose bytes are handed in.
+#[derive(Clone, Copy, Debug)]
+pub(crate) struct Head {
+    head: ffi::Head,
+    metadata: Metadata,
+    info: Info,
+}
 
-// The streaminfo, and the comments where they are requested and present. Blocks are read as far as the options say.
+/// What was read of it.
+pub(crate) enum Part {
+    StreamInfo(StreamInfo),
+    VorbisComment(VorbisComment),
+    Other,
+    /// So many bytes are needed at least.
+    NeedMore(usize),
+    Whole,
+}
+
+impl Head {
+    pub fn start(position: u64) -> Head {
+        Head { head: ffi::Head::start(position), metadata: Metadata::default(), info: Info::default() }
+    }
+
+    /// The position of the first byte that is needed.
+    pub fn position(&self) -> u64 {
+        self.head.position
+    }
+
+    pub fn next(&mut self, held: Held<'_>) -> Result<Part> {
+        match self.head.next(held, &mut self.info, &mut self.metadata) {
+            NextPart::Content => self.content(held),
+            NextPart::Other => Ok(Part::Other),
+            NextPart::NeedMore => Ok(Part::NeedMore(self.head.needed)),
+            NextPart::Whole => Ok(Part::Whole),
+            NextPart::Failed(failure) => Err(failure.into()),
+        }
+    }
+
+    // An error of a reader, or the fault that is told where the bytes end there.
+    fn fault_before(mut self, error: io::Error, held: Held<'_>) -> Error {
+        match self.next(held) {
+            Err(fault @ (Error::FormatError(_) | Error::Unsupported(_))) => fault,
+            _ => Error::IoError(error),
+        }
+    }
+
+    // The content of streaminfo and comments is held as a whole.
+    fn content(&self, held: Held<'_>) -> Result<Part> {
+        let Metadata { content, length, block_type, .. } = self.metadata;
+        Ok(match block_type {
+            STREAMINFO => Part::StreamInfo(StreamInfo::new(&self.info)),
+            VORBIS_COMMENT => {
+                let start = content - held.position as usize;
+                Part::VorbisComment(VorbisComment::new(&held.bytes[start..start + length as usize])?)
+            }
+            _ => Part::Other,
+        })
+    }
+}
+
+/// The streaminfo, and the comments where they are requested and present. Blocks are read as far as the options say.
 pub(crate) fn read_head<R: ReadBytes>(
     input: &mut R,
     options: FlacReaderOptions,
 ) -> Result<(StreamInfo, Option<VorbisComment>)> {
-    read_marker(input)?;
-    let header = BlockHeader::read(input)?;
-    let streaminfo = match Content::read(input, header.block_type, header.length)? {
-        Content::StreamInfo(streaminfo) => streaminfo,
-        Content::VorbisComment(_) | Content::Skipped => return format_error("streaminfo block missing"),
-    };
-    if header.is_last || (options.metadata_only && !options.read_vorbis_comment) {
-        return Ok((streaminfo, None));
-    }
-    let comment = read_other_blocks(input, options.metadata_only)?;
-    Ok((streaminfo, comment.filter(|_| options.read_vorbis_comment)))
-}
-
-// The library says what is wrong with the first four bytes.
-fn read_marker<R: ReadBytes>(input: &mut R) -> Result<()> {
-    let marker = input.read_be_u32()?.to_be_bytes();
-    match ffi::open(&marker) {
-        Err(failure) if failure.status != ffi::INPUT_ENDS => Err(failure.into()),
-        _ => Ok(()),
-    }
-}
-
-// The blocks after the streaminfo, up to the last one, or up to the comments if these suffice.
-fn read_other_blocks<R: ReadBytes>(input: &mut R, comments_suffice: bool) -> Result<Option<VorbisComment>> {
-    let mut comment = None;
-    for _ in 1..MAX_BLOCKS {
-        let header = BlockHeader::read(input)?;
-        match Content::read(input, header.block_type, header.length)? {
-            Content::StreamInfo(_) => return format_error("encountered second streaminfo block"),
-            Content::VorbisComment(_) if comment.is_some() => {
-                return format_error("encountered second Vorbis comment block");
-            }
-            Content::VorbisComment(found) => comment = Some(found),
-            Content::Skipped => {}
+    let (mut head, mut streaminfo, mut comment) = (Head::start(input.position()), None, None);
+    let mut is_end = false;
+    loop {
+        let part = head.next(input.held(is_end))?;
+        let is_whole = matches!(part, Part::Whole);
+        input.skip((head.position() - input.position()) as u32)?;
+        match part {
+            Part::StreamInfo(found) => streaminfo = Some(found),
+            Part::VorbisComment(found) => comment = Some(found),
+            Part::NeedMore(_) => match input.fill(METADATA_CAPACITY) {
+                Ok(count) => is_end = count == 0,
+                Err(error) => return Err(head.fault_before(error, input.held(true))),
+            },
+            Part::Other | Part::Whole => {}
         }
-        if header.is_last || (comments_suffice && comment.is_some()) {
-            return Ok(comment);
+        let suffices = options.metadata_only && (comment.is_some() || !options.read_vorbis_comment);
+        if let (Some(streaminfo), true) = (streaminfo, is_whole || suffices) {
+            return Ok((streaminfo, comment.filter(|_| options.read_vorbis_comment)));
         }
     }
-    unsupported("more than 65536 metadata blocks are not supported")
 }

@@ -1,6 +1,8 @@
 //! Readers of bytes.
+use crate::decoder::Decoder;
 use crate::error::end_of_input;
-use crate::source::{Decoded, Lost, Source, Tried, FRAME_CAPACITY, METADATA_CAPACITY};
+use crate::seek::Decoded;
+use crate::source::{Source, FRAME_CAPACITY, METADATA_CAPACITY};
 use std::io::{self, SeekFrom};
 
 /// A reader with a buffer, for any `io::Read`.
@@ -13,16 +15,13 @@ pub struct BufferedReader<R: io::Read> {
     // The bytes in `start..end` were read, and not consumed.
     start: usize,
     end: usize,
-    // What the next `fill` returns in place of a read.
-    put_back: Option<io::Result<usize>>,
-    tried: Tried,
-    lost: Lost,
     // The position of the next byte that is read, from where the wrapped reader stood at first.
     next: u64,
     // Where it stood, once it is asked, and how it goes to another position.
     began: Option<(u64, SeekCall<R>)>,
     // Whether it stands elsewhere than at `next`.
     is_moved: bool,
+    decoder: Decoder,
     // The frame that the buffered bytes begin with, where it was decoded already.
     decoded: Option<Decoded>,
 }
@@ -38,12 +37,10 @@ impl<R: io::Read> BufferedReader<R> {
             buffer: Vec::new(),
             start: 0,
             end: 0,
-            put_back: None,
-            tried: Tried::default(),
-            lost: Lost::default(),
             next: 0,
             began: None,
             is_moved: false,
+            decoder: Decoder::without_head(0),
             decoded: None,
         }
     }
@@ -55,8 +52,8 @@ impl<R: io::Read> BufferedReader<R> {
 
     // Moves the buffered bytes to the front of a buffer of at least this capacity, which has more than them.
     fn make_space(&mut self, capacity: usize) {
-        self.lost.refused = 0;
         if self.start > 0 {
+            self.decoder.forget_fault();
             self.buffer.copy_within(self.start..self.end, 0);
             self.end -= self.start;
             self.start = 0;
@@ -81,13 +78,7 @@ impl<R: io::Read> BufferedReader<R> {
         assert!(count <= free.len(), "a reader that says it read more than it can have read");
         self.end += count;
         self.next += count as u64;
-        self.tried.read(count);
         Ok(count)
-    }
-
-    /// The position of the next byte, from where the wrapped reader stood at first.
-    pub(crate) fn position(&self) -> u64 {
-        self.next - (self.end - self.start) as u64
     }
 
     /// Reads once, as many bytes at most, into a buffer for frames.
@@ -106,10 +97,13 @@ impl<R: io::Read> BufferedReader<R> {
             (self.start, self.end, self.next) = (0, 0, position);
             self.is_moved = true;
         }
-        self.put_back = None;
-        self.tried = Tried::default();
-        self.lost.forget();
+        self.decoder.forget_fault();
         self.decoded = None;
+    }
+
+    /// Keeps the frame that the buffered bytes begin with, until bytes are consumed.
+    pub(crate) fn keep(&mut self, decoded: Decoded) {
+        self.decoded = Some(decoded);
     }
 }
 
@@ -134,51 +128,32 @@ impl<R: io::Read> Source for BufferedReader<R> {
     fn consume(&mut self, count: usize) {
         assert!(count <= self.end - self.start);
         self.start += count;
-        self.tried.consume(count);
-        self.lost.refused = 0;
-        self.decoded = None;
-    }
-
-    fn go_back(&mut self, count: usize) {
-        self.start -= count;
-        self.tried.consume(count);
         self.decoded = None;
     }
 
     fn fill(&mut self, capacity: usize) -> io::Result<usize> {
-        if let Some(read) = self.put_back.take() {
-            return read;
-        }
         self.make_space(capacity);
         self.read(usize::MAX)
     }
 
-    fn put_back(&mut self, read: io::Result<usize>) {
-        self.put_back = Some(read);
+    fn position(&self) -> u64 {
+        self.next - (self.end - self.start) as u64
     }
 
-    fn keep(&mut self, decoded: Decoded) {
-        self.decoded = Some(decoded);
+    fn go_within(&mut self, position: u64) {
+        self.start = self.end - (self.next - position) as usize;
+    }
+
+    fn decoder(&self) -> Decoder {
+        self.decoder
+    }
+
+    fn note(&mut self, decoder: Decoder) {
+        self.decoder = decoder;
     }
 
     fn take_decoded(&mut self) -> Option<Decoded> {
         self.decoded.take()
-    }
-
-    fn tried(&self) -> Tried {
-        self.tried
-    }
-
-    fn note(&mut self, tried: Tried) {
-        self.tried = tried;
-    }
-
-    fn lost(&self) -> Lost {
-        self.lost
-    }
-
-    fn note_lost(&mut self, lost: Lost) {
-        self.lost = lost;
     }
 }
 
@@ -275,40 +250,28 @@ impl<R: ReadBytes> Source for &mut R {
         (**self).consume(count)
     }
 
-    fn go_back(&mut self, count: usize) {
-        (**self).go_back(count)
-    }
-
     fn fill(&mut self, capacity: usize) -> io::Result<usize> {
         (**self).fill(capacity)
     }
 
-    fn put_back(&mut self, read: io::Result<usize>) {
-        (**self).put_back(read)
+    fn position(&self) -> u64 {
+        (**self).position()
     }
 
-    fn keep(&mut self, decoded: Decoded) {
-        (**self).keep(decoded)
+    fn go_within(&mut self, position: u64) {
+        (**self).go_within(position)
+    }
+
+    fn decoder(&self) -> Decoder {
+        (**self).decoder()
+    }
+
+    fn note(&mut self, decoder: Decoder) {
+        (**self).note(decoder)
     }
 
     fn take_decoded(&mut self) -> Option<Decoded> {
         (**self).take_decoded()
-    }
-
-    fn tried(&self) -> Tried {
-        (**self).tried()
-    }
-
-    fn note(&mut self, tried: Tried) {
-        (**self).note(tried)
-    }
-
-    fn lost(&self) -> Lost {
-        (**self).lost()
-    }
-
-    fn note_lost(&mut self, lost: Lost) {
-        (**self).note_lost(lost)
     }
 }
 
@@ -324,18 +287,12 @@ impl<R: ReadBytes> ReadBytes for &mut R {
 
 impl<T: AsRef<[u8]>> Source for io::Cursor<T> {
     fn buffered(&self) -> &[u8] {
-        let bytes = self.get_ref().as_ref();
-        let start = usize::try_from(self.position()).unwrap_or(usize::MAX);
-        &bytes[start.min(bytes.len())..]
+        &self.get_ref().as_ref()[Source::position(self) as usize..]
     }
 
     fn consume(&mut self, count: usize) {
         assert!(count <= self.buffered().len());
-        self.set_position(self.position() + count as u64);
-    }
-
-    fn go_back(&mut self, count: usize) {
-        self.set_position(self.position() - count as u64);
+        self.set_position(io::Cursor::position(self) + count as u64);
     }
 
     // All there is was buffered from the beginning.
@@ -343,25 +300,26 @@ impl<T: AsRef<[u8]>> Source for io::Cursor<T> {
         Ok(0)
     }
 
-    fn put_back(&mut self, _: io::Result<usize>) {}
+    // A cursor can stand after its bytes.
+    fn position(&self) -> u64 {
+        io::Cursor::position(self).min(self.get_ref().as_ref().len() as u64)
+    }
 
-    fn keep(&mut self, _: Decoded) {}
+    fn go_within(&mut self, position: u64) {
+        if position != Source::position(self) {
+            self.set_position(position);
+        }
+    }
+
+    fn decoder(&self) -> Decoder {
+        Decoder::without_head(Source::position(self))
+    }
+
+    fn note(&mut self, _: Decoder) {}
 
     fn take_decoded(&mut self) -> Option<Decoded> {
         None
     }
-
-    fn tried(&self) -> Tried {
-        Tried::default()
-    }
-
-    fn note(&mut self, _: Tried) {}
-
-    fn lost(&self) -> Lost {
-        Lost::default()
-    }
-
-    fn note_lost(&mut self, _: Lost) {}
 }
 
 impl<T: AsRef<[u8]>> ReadBytes for io::Cursor<T> {

@@ -54,6 +54,7 @@
 #![deny(unsafe_code)]
 #![warn(missing_docs)]
 
+mod decoder;
 mod error;
 #[allow(unsafe_code)]
 mod ffi;
@@ -66,6 +67,7 @@ mod samples;
 mod seek;
 mod source;
 
+pub use decoder::{Decoder, Event, Held};
 pub use error::{Error, Result};
 pub use frame::Block;
 pub use md5::Md5;
@@ -78,6 +80,7 @@ struct Readme;
 use frame::FrameReader;
 use input::BufferedReader;
 use metadata::{GetTag, StreamInfo, Tags, VorbisComment};
+use source::Source;
 use std::fs::File;
 use std::io::{Read, Seek};
 use std::path::Path;

@@ -30,7 +30,7 @@ pub struct StreamInfo {
 }
 
 impl StreamInfo {
-    fn new(info: &Info) -> StreamInfo {
+    pub(crate) fn new(info: &Info) -> StreamInfo {
         let known = |size: u32| Some(size).filter(|size| *size > 0);
         StreamInfo {
             min_block_size: info.min_block_size,
@@ -85,6 +85,14 @@ pub struct VorbisComment {
     pub vendor: String,
     /// The tags, each `NAME=value` with the index of its first `=`. The name is of the bytes 0x20 to 0x7D.
     pub comments: Vec<(String, usize)>,
+}
+
+impl VorbisComment {
+    // Of the whole content of such a block.
+    pub(crate) fn new(content: &[u8]) -> Result<VorbisComment> {
+        let (vendor, count) = ffi::vendor(content)?;
+        Ok(VorbisComment { vendor: text(&content[vendor])?, comments: read_comments(content, count)? })
+    }
 }
 
 /// A metadata block.
@@ -175,11 +183,11 @@ fn name_and_value((comment, separator): &(String, usize)) -> (&str, &str) {
 
 // ---- reading
 
-const STREAMINFO: u8 = 0;
+pub(crate) const STREAMINFO: u8 = 0;
 const PADDING: u8 = 1;
 const APPLICATION: u8 = 2;
 const SEEK_TABLE: u8 = 3;
-const VORBIS_COMMENT: u8 = 4;
+pub(crate) const VORBIS_COMMENT: u8 = 4;
 const CUE_SHEET: u8 = 5;
 const PICTURE: u8 = 6;
 
@@ -325,8 +333,7 @@ fn read_vorbis_comment<R: ReadBytes>(input: &mut R, length: u32) -> Result<Vorbi
         check_beginning(VORBIS_COMMENT, length, &content)?;
         return Err(Error::IoError(error));
     }
-    let (vendor, count) = ffi::vendor(&content)?;
-    Ok(VorbisComment { vendor: text(&content[vendor])?, comments: read_comments(&content, count)? })
+    VorbisComment::new(&content)
 }
 
 // The library has judged the whole block, so that each of these tags is there.

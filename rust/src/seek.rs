@@ -1,10 +1,9 @@
 //! The frame that has a sample.
 use crate::error::Result;
-use crate::ffi::{self, Block, Info, NextBlock, Search, MAX_FRAME_BYTES};
-use crate::frame::is_cut;
+use crate::ffi::{self, Block, Failure, HeaderSearch, Info, NextBlock, MAX_FRAME_BYTES};
 use crate::input::BufferedReader;
 use crate::metadata::StreamInfo;
-use crate::source::{Decoded, Source, FRAME_CAPACITY, MAX_WASTED, WASTED_OF_A_BYTE};
+use crate::source::{Source, FRAME_CAPACITY};
 use std::io::{Read, Seek};
 
 // How many bytes are read at once to find a header: most frames have fewer.
@@ -13,6 +12,10 @@ const STEP: usize = 1 << 14;
 // How many headers are read at most to guess where the frame is, and how many before each other step halves the bytes.
 const MAX_GUESSES: u32 = 96;
 const GUESSES_BY_TIME: u32 = 8;
+
+// The bytes and samples of tries that may lead to no frame, and how many more for each byte that is searched.
+const MAX_WASTED: u64 = 2 * MAX_FRAME_BYTES as u64;
+const WASTED_OF_A_BYTE: u64 = 4;
 
 /// Goes to a frame whose block has the sample, and returns how many of the block's samples come before it. Else the
 /// reader stands anywhere.
@@ -31,17 +34,17 @@ pub(crate) fn seek<R: Read + Seek>(
     Ok(found.map(|block| (sample - block.time) as u32))
 }
 
-/// Consumes the bytes before the next header of a frame of the stream, or those that can't become one. Returns whether the
-/// header is there.
-pub(crate) fn pass_to_header<S: Source>(input: &mut S, info: &Info) -> Result<bool> {
-    // A budget of no samples ends the search at a header.
-    let (at, is_header) = match ffi::find_frame(input.buffered(), info, 0) {
-        Search::Frame(at) | Search::Header(at) => (at, true),
-        Search::Nothing(at) => (at, false),
-        Search::Failed(failure) => return Err(failure.into()),
-    };
-    input.consume(at);
-    Ok(is_header)
+/// Whether the bytes ended before the frame did.
+pub(crate) fn is_cut(failure: &Failure) -> bool {
+    failure.status == ffi::INPUT_ENDS || failure.status == ffi::NO_MORE
+}
+
+/// A frame that was decoded.
+pub struct Decoded {
+    pub block: Block,
+    pub samples: Vec<i32>,
+    /// The number of its bytes.
+    pub length: usize,
 }
 
 struct Seeker<'a, R: Read> {
@@ -101,7 +104,7 @@ impl<R: Read> Seeker<'_, R> {
     fn next_header(&mut self, position: u64, end: u64) -> Result<Option<Block>> {
         self.input.go_to(position);
         loop {
-            let is_header = pass_to_header(self.input, &self.info)?;
+            let is_header = self.pass_to_header()?;
             if self.input.position() >= end {
                 return Ok(None);
             }
@@ -112,6 +115,19 @@ impl<R: Read> Seeker<'_, R> {
                 return Ok(None);
             }
         }
+    }
+
+    // Consumes the bytes before the next header of a frame of the stream, or those that can't become one. Returns whether
+    // the header is there.
+    fn pass_to_header(&mut self) -> Result<bool> {
+        // A budget of no samples ends the search at a header.
+        let (at, is_header) = match ffi::find_frame(self.input.buffered(), &self.info, 0) {
+            HeaderSearch::Frame(at) | HeaderSearch::Header(at) => (at, true),
+            HeaderSearch::Nothing(at) => (at, false),
+            HeaderSearch::Failed(failure) => return Err(failure.into()),
+        };
+        self.input.consume(at);
+        Ok(is_header)
     }
 
     fn has_sample(&self, block: &Block) -> bool {

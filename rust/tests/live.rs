@@ -163,6 +163,42 @@ fn frames_of_any_size() {
     }
 }
 
+/// A frame of 65,535 samples, each in as many bits as it is far from 0, twice: of more than 2 MiB.
+fn long_frame() -> (Vec<u8>, Vec<i32>) {
+    let mut noise = noise_of(4);
+    let samples: Vec<i32> = (0..65535).map(|_| i32::from(noise()) * 2 - 255).collect();
+    let mut frame = vec![0xff, 0xf8, 0x79, 4 << 1, 0, 0xff, 0xfe];
+    frame.push(crc8(&frame));
+    // A fixed predictor of order 0. One Rice code, whose parameter is 0, in ten bits of 0.
+    frame.push(0x10);
+    let mut length = 8 * frame.len() + 10;
+    for sample in &samples {
+        length += (sample << 1 ^ sample >> 31) as usize;
+        frame.resize(length / 8 + 1, 0);
+        frame[length / 8] |= 0x80 >> (length % 8);
+        length += 1;
+    }
+    frame.extend_from_slice(&crc16(&frame).to_be_bytes());
+    (frame, samples)
+}
+
+#[test]
+fn a_frame_of_more_than_2_mib() {
+    let (frame, samples) = long_frame();
+    assert!(frame.len() > 2 << 20, "{} bytes", frame.len());
+    let stream = [bytes(HEAD), frame.clone(), frame].concat();
+    let end = bytes(HEAD).len() + (stream.len() - bytes(HEAD).len()) / 2;
+    for piece in [1, 100, 1460] {
+        let limit = Cell::new(end);
+        let mut flac = FlacReader::new(Limited { bytes: &stream, at: 0, piece, limit: &limit }).unwrap();
+        for _ in 0..2 {
+            let block = flac.blocks().read_next_or_eof(Vec::new()).unwrap().unwrap();
+            assert!(block.channel(0) == samples);
+            limit.set(stream.len());
+        }
+    }
+}
+
 /// Sends the stream in pieces, and waits for each block before it goes on.
 fn send(stream: &Stream, piece: usize, mut socket: UnixStream, given: Receiver<()>) {
     let (mut at, mut count) = (0, 0);

@@ -256,7 +256,7 @@ fn zeros_that_never_end() {
     let mut samples = flac.samples();
     assert_eq!(samples.by_ref().take(3).map(Result::unwrap).collect::<Vec<_>>(), [5, 3, -2]);
     let error = samples.next().unwrap().unwrap_err();
-    assert_eq!(error, Error::Unsupported("frames of more than 16777215 bytes are not supported"));
+    assert_eq!(error, Error::FormatError("frame longer than 16777215 bytes"));
     assert!(samples.next().is_none());
     assert!(given.get() <= (1 << 24) + (1 << 18), "{} bytes were read", given.get());
     assert!(reads.get() < 20, "{} reads", reads.get());
@@ -271,11 +271,11 @@ fn long_zeros_in_memory() {
     assert_eq!(fault(&error), "IO");
     frames.push(0);
     let error = FrameReader::new(Cursor::new(&frames)).read_next_or_eof(Vec::new()).err().unwrap();
-    assert_eq!(error, Error::Unsupported("frames of more than 16777215 bytes are not supported"));
+    assert_eq!(error, Error::FormatError("frame longer than 16777215 bytes"));
     frames.extend_from_slice(&bytes(FRAME));
     let mut input = Cursor::new(frames);
     let error = FrameReader::new(&mut input).read_next_or_eof(Vec::new()).err().unwrap();
-    assert_eq!(error, Error::Unsupported("frames of more than 16777215 bytes are not supported"));
+    assert_eq!(error, Error::FormatError("frame longer than 16777215 bytes"));
     assert_eq!(input.position(), 16_777_215);
     let block = FrameReader::new(&mut input).read_next_or_eof(Vec::new()).unwrap().unwrap();
     assert_eq!(block.channel(0), [5]);

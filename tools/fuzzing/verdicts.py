@@ -1,9 +1,10 @@
-"""What `claxon verify` has to say of a stream, as far as the slow decoder tells: it stops at the
-first fault.
+"""What `claxon verify` has to say of a stream, as far as the slow decoder tells, which stops at the
+first fault: all places of a stream without a fault, and where the first is of others.
 
 It was written from RFC 9639 and docs/man/claxon.1, without claxon's code.
 """
-from typing import Any, Dict, NamedTuple, Optional, Sequence, Tuple
+import dataclasses
+from typing import Any, Dict, List, NamedTuple, Optional, Sequence, Tuple
 
 from fuzzing import slow_decoder
 from fuzzing.slow_decoder import Fault, Frame, Reading, StreamInfo, fits
@@ -98,11 +99,53 @@ def gap_text(count: int, is_variable: bool, what: str) -> str:
     return f"{count} {thing if count == 1 else thing + 's'} {'is' if count == 1 else 'are'} {what}"
 
 
-def damage_of(
-    streaminfo: StreamInfo, strategy: Optional[bool], number: int, frame: Frame
-) -> Optional[str]:
-    """Why a frame isn't the next one, or None. `strategy` is that of the first frame, and None
-    before it."""
+@dataclasses.dataclass
+class Due:
+    """What the next frame has to be."""
+
+    strategy: Optional[bool] = None
+    number: int = 0
+    sample: int = 0
+
+    def first_sample(self, streaminfo: StreamInfo, frame: Frame) -> int:
+        """The number of the frame's first sample."""
+        header = frame.header
+        if header.coded_number == self.number:
+            return self.sample
+        size = 1 if header.is_variable else streaminfo.max_block_size
+        return header.coded_number * size
+
+    def after(self, streaminfo: StreamInfo, frame: Frame) -> "Due":
+        header = frame.header
+        step = header.block_size if header.is_variable else 1
+        sample = self.first_sample(streaminfo, frame) + header.block_size
+        return Due(header.is_variable, header.coded_number + step, sample)
+
+
+@dataclasses.dataclass
+class Place:
+    """Bytes, samples and what is wrong first; and of a place that has ended the numbers that were
+    due in it and didn't come, and those of frames that came too early."""
+
+    start: int
+    first: int
+    what: str
+    end: int = 0
+    after: int = 0
+    skipped: Tuple[int, int] = (0, 0)
+    early: Tuple[int, int] = (0, 0)
+
+    def go_on(self, end: int, after: int) -> None:
+        self.end, self.after = end, after
+        if self.what.endswith(" missing"):
+            self.what = "frames are out of order"
+
+    def told(self) -> Tuple[int, int, int, int, str]:
+        return self.start, self.end, self.first, self.after, self.what
+
+
+def other_stream(streaminfo: StreamInfo, due: Due, frame: Frame) -> Optional[str]:
+    """Why a frame isn't one of the stream, or None."""
     header = frame.header
     if header.channels != streaminfo.channels:
         counted = "1 channel" if header.channels == 1 else f"{header.channels} channels"
@@ -112,35 +155,89 @@ def damage_of(
         return f"{counted} per sample, but the streaminfo says {streaminfo.bits_per_sample}"
     if header.sample_rate not in (None, streaminfo.sample_rate):
         return f"{header.sample_rate} Hz, but the streaminfo says {streaminfo.sample_rate}"
-    if strategy not in (None, header.is_variable):
+    if due.strategy not in (None, header.is_variable):
         return "the blocking strategy differs from the first frame's"
-    if header.coded_number > number:
-        return gap_text(header.coded_number - number, header.is_variable, "missing")
-    if header.coded_number < number:
-        return gap_text(number - header.coded_number, header.is_variable, "repeated")
     bit_depth = streaminfo.bits_per_sample
     if not all(fits(sample, bit_depth) for channel in frame.channels for sample in channel):
         return "a sample has more bits than the streaminfo says"
+    last = due.sample + header.block_size
+    if streaminfo.samples and due.sample <= streaminfo.samples < last:
+        return "frames after the streaminfo's last sample"
     return None
 
 
-def first_place(
-    streaminfo: StreamInfo, expected: Reading, at: int
-) -> Optional[Tuple[int, int, Optional[str]]]:
-    """The byte and the sample of the first place, and what is wrong there, None for a fault; or
-    None if there is no place. The frames begin at this byte."""
-    strategy: Optional[bool] = None
-    number = samples = 0
+class Places:
+    """The places of frames that are given one after another."""
+
+    def __init__(self, streaminfo: StreamInfo) -> None:
+        self._streaminfo = streaminfo
+        self._due = Due()
+        self._begun: Optional[Place] = None
+        self.ended: List[Place] = []
+
+    def begin(self, at: int, what: str) -> None:
+        self._begun = self._begun or Place(at, self._due.sample, what)
+
+    def add(self, at: int, frame: Frame) -> None:
+        due, number = self._due, frame.header.coded_number
+        what = other_stream(self._streaminfo, due, frame)
+        sample = due.first_sample(self._streaminfo, frame)
+        last = self.ended[-1] if self.ended else None
+        if what is None and number < due.number:
+            if last is None or not last.skipped[0] <= number < last.skipped[1]:
+                what = "frames are repeated"
+            else:
+                last.go_on(at, sample)
+                last.early = last.skipped[1], max(due.number, last.early[1])
+                last.skipped = last.skipped[0], number
+                self._begun = None
+        elif what is None:
+            self._go_on(at, frame, sample)
+        if what is None:
+            self._due = due.after(self._streaminfo, frame)
+        else:
+            self.begin(at, what)
+
+    def _go_on(self, at: int, frame: Frame, sample: int) -> None:
+        """The frame ends a place, or some are missing before it."""
+        due, number = self._due.number, frame.header.coded_number
+        if self._begun is None:
+            if number == due:
+                return
+            if self.ended and self.ended[-1].early == (due, number):
+                self.ended[-1].go_on(at, sample)
+                self.ended[-1].early = 0, 0
+                return
+            text = gap_text(number - due, frame.header.is_variable, "missing")
+            self.begin(at, text)
+        place = self._begun
+        assert place is not None
+        place.end, place.after, place.skipped = at, sample, (due, number)
+        self.ended.append(place)
+        self._begun = None
+
+    def finish(self, end: int) -> None:
+        samples = self._streaminfo.samples
+        if self._begun is None and self._due.sample < samples:
+            self.begin(end, gap_text(samples - self._due.sample, True, "missing"))
+        if self._begun is not None:
+            self._begun.end, self._begun.after = end, max(self._due.sample, samples)
+            self.ended.append(self._begun)
+
+
+def places_of(
+    streaminfo: StreamInfo, expected: Reading, at: int, end: int
+) -> List[Tuple[int, int, int, int, str]]:
+    """The places of a stream whose frames begin at this byte and which ends at another, as far as
+    the first fault."""
+    places = Places(streaminfo)
     for frame in expected.frames:
-        header = frame.header
-        damage = damage_of(streaminfo, strategy, number, frame)
-        if damage:
-            return at, samples, damage
-        strategy = header.is_variable
-        number += header.block_size if header.is_variable else 1
-        samples += header.block_size
+        places.add(at, frame)
         at += frame.length
-    return (at, samples, None) if expected.fault else None
+    if expected.fault:
+        places.begin(at, "")
+    places.finish(end)
+    return [place.told() for place in places.ended]
 
 
 def size_note(found: Sequence[Frame]) -> Optional[str]:
@@ -171,15 +268,18 @@ def difference(data: bytes, expected: Reading, found: Dict[str, Any]) -> Optiona
     if expected.streaminfo is None:
         expected = reading_after(data, head)
     streaminfo = head.streaminfo
-    place = first_place(streaminfo, expected, head.end)
-    if (place is None) != (not found["places"]):
-        return "verify: a first place"
-    if place:
-        first = found["places"][0]
-        if (first["start_byte"], first["start_sample"]) != place[:2]:
+    wanted = places_of(streaminfo, expected, head.end, len(data))
+    keys = "start_byte", "end_byte", "start_sample", "end_sample", "what"
+    places = [tuple(place[key] for key in keys) for place in found["places"]]
+    if expected.fault:
+        # What follows the fault may be in the first place too, and change its name.
+        first = places[0] if places else ()
+        if first[:3:2] != wanted[0][:3:2]:
             return "verify: where the first place is"
-        if place[2] and first["what"] != place[2]:
-            return "verify: what the first place is"
+        return "verify: right with a place" if verdict == "ok" else None
+    if places != wanted[: len(places)] or len(wanted) != len(places) + found.get("left_out", 0):
+        return "verify: places"
+    if wanted:
         return "verify: right with a place" if verdict == "ok" else None
     samples = sum(frame.header.block_size for frame in expected.frames)
     if (found["frames"], found["samples"]) != (len(expected.frames), samples):

@@ -27,6 +27,8 @@ WRONG_MD5 = "but their MD5 sum isn't that of the streaminfo"
 Place = Tuple[int, int, int, int, str]
 MISSING = "1 frame is missing"
 SECOND_MISSING = 53, 53, 16, 32, MISSING
+REPEATED, OUT_OF_ORDER = "frames are repeated", "frames are out of order"
+BEYOND = "frames after the streaminfo's last sample"
 
 
 @dataclasses.dataclass(frozen=True)
@@ -290,37 +292,41 @@ def right_rows() -> Iterator[Row]:
 
 def order_rows() -> Iterator[Row]:
     """Frames that are all right by themselves, and not where they have to be."""
-    twice, both_twice = "1 frame is repeated", "2 frames are repeated"
-    yield wrong(
-        "two frames swapped",
-        numbered([0, 2, 1, 3]),
-        (4, 64),
-        SECOND_MISSING,
-        (64, 64, 48, 16, both_twice),
-        (75, 75, 32, 48, MISSING),
-    )
+    swapped = 53, 75, 16, 48, OUT_OF_ORDER
+    yield wrong("two frames swapped", numbered([0, 2, 1, 3]), (4, 64), swapped)
+    first_last = 42, 86, 0, 64, OUT_OF_ORDER
+    yield wrong("a frame three too early", numbered([3, 0, 1, 2, 4]), (5, 80), first_last)
+    swapped = 53, 97, 16, 80, OUT_OF_ORDER
+    yield wrong("two pairs swapped", numbered([0, 3, 4, 1, 2, 5]), (6, 96), swapped)
     yield wrong(
         "a frame overwritten by the next one",
         numbered([0, 2, 2, 3]),
         (4, 64),
         SECOND_MISSING,
-        (64, 64, 48, 32, twice),
+        (64, 75, 48, 48, REPEATED),
     )
     yield wrong("a frame missing", numbered([0, 2], of=3), (2, 32), SECOND_MISSING, said=48)
     gap = 53, 53, 16, 64, "3 frames are missing"
     yield wrong("three frames missing", numbered([0, 4], of=5), (2, 32), gap, said=80)
-    repeated = 64, 64, 32, 16, twice
-    yield wrong("a frame twice", numbered([0, 1, 1, 2], of=3), (4, 64), repeated, said=48)
-    repeated = 64, 64, 32, 0, both_twice
-    yield wrong("two frames twice", numbered([0, 1, 0, 1], of=2), (4, 64), repeated, said=32)
-    later = numbered([1, 2], of=2, md5=md5_of([2, 3]))
-    yield wrong("numbers from 1 on", later, (2, 32), (42, 42, 0, 16, MISSING), md5="ok")
-    for name, number, what in (
-        ("a gap of samples", 48, "32 samples are missing"),
-        ("a sample twice", 15, "1 sample is repeated"),
-    ):
-        data = TWO[:42] + variable(0, 1) + variable(number, 2)
-        yield wrong(name, data, (2, 32), (53, 53, 16, number, what), md5="ok")
+    place = 64, 75, 32, 32, REPEATED
+    yield wrong("a frame twice", numbered([0, 1, 1, 2], of=3), (4, 64), place, said=48)
+    place = 64, 86, 32, 32, BEYOND
+    yield wrong("two frames twice", numbered([0, 1, 0, 1], of=2), (4, 64), place, said=32)
+    yield wrong(
+        "the last frame missing",
+        numbered([0, 1], of=3),
+        (2, 32),
+        (64, 64, 32, 48, "16 samples are missing"),
+        said=48,
+    )
+    later = numbered([1, 2], of=2, samples=48, md5=md5_of([2, 3]))
+    place = 42, 42, 0, 16, MISSING
+    yield wrong("numbers from 1 on", later, (2, 32), place, said=48, md5="ok")
+    start = numbered([0, 1], samples=64)[:42] + variable(0, 1)
+    place = 53, 53, 16, 48, "32 samples are missing"
+    yield wrong("a gap of samples", start + variable(48, 2), (2, 32), place, said=64, md5="ok")
+    data = TWO[:42] + variable(0, 1) + variable(15, 2)
+    yield wrong("a sample twice", data, (2, 32), (53, 64, 16, 32, REPEATED), md5="ok")
     yield wrong(
         "a frame missing, unknown length",
         numbered([0, 2], of=3, samples=0, md5=md5_of([1, 3])),
@@ -435,12 +441,22 @@ def wide_rows() -> Iterator[Row]:
 
 def sum_rows() -> Iterator[Row]:
     yield wrong("another MD5 sum", numbered([0, 1], md5=md5_of([1, 1])), (2, 32))
-    for samples in 48, 16, 1, 31, 33, 2**36 - 1:
+    for samples, start, end in (16, 53, 16), (1, 42, 0), (31, 53, 16):
         data = numbered([0, 1], samples=samples)
-        name = f"{samples} samples in the streaminfo"
-        yield wrong(name, data, (2, 32), said=samples, md5="ok")
-    data = head(16, bytes(16))
-    yield wrong("no frame, but samples", data, (0, 0), said=16, notes=(MD5_NOTE,))
+        name, place = f"{samples} samples in the streaminfo", (start, 64, end, samples, BEYOND)
+        yield wrong(name, data, (2, 32), place, said=samples, md5="ok")
+    for samples, what in (
+        (33, "1 sample is missing"),
+        (48, "16 samples are missing"),
+        (2**36 - 1, f"{2**36 - 33} samples are missing"),
+    ):
+        data = numbered([0, 1], samples=samples)
+        name, place = f"{samples} samples in the streaminfo", (64, 64, 32, samples, what)
+        yield wrong(name, data, (2, 32), place, said=samples, md5="ok")
+    place = 42, 42, 0, 16, "16 samples are missing"
+    yield wrong(
+        "no frame, but samples", head(16, bytes(16)), (0, 0), place, said=16, notes=(MD5_NOTE,)
+    )
 
 
 def bytes_after(position: int, sample: int, data: bytes, what: str = "") -> Place:
@@ -468,6 +484,10 @@ def trailing_rows() -> Iterator[Row]:
     ):
         place = bytes_after(64, 32, more, what)
         yield wrong(name + " after", TWO + more, (2, 32), place, md5="ok")
+    second = ": a second stream begins"
+    for name, more, counts in ("as long", TWO, (4, 64)), ("longer", THREE, (5, 80)):
+        place = bytes_after(64, 32, more, second)
+        yield wrong(f"a second stream, {name}", TWO + more, counts, place, said=32)
     tag = b"TAG".ljust(128, b"\0")
     yield wrong(
         "a tag, unknown length",
@@ -570,13 +590,24 @@ def fault_rows() -> Iterator[Row]:
     data = numbered([0], of=3) + negative_shift_frame(1, 2) + frame(2, 3)
     shift = "Ill-formed FLAC stream: negative linear predictor coefficient shift"
     yield wrong("a negative shift", data, (2, 32), (53, 70, 16, 32, shift), said=48)
-    data = numbered([0]) + b"bytes!" + frame(1, 2)
-    yield wrong("bytes between frames", data, (2, 32), (53, 59, 16, 16, SYNC), said=16)
+    data = numbered([0], of=2) + b"bytes!" + frame(1, 2)
+    yield wrong("bytes between frames", data, (2, 32), (53, 59, 16, 16, SYNC), md5="ok")
+    # As a sector of the same file over parts of the frames 1 and 2.
+    data = numbered([0, 1, 3, 2, 2, 3, 4], of=5)
+    later = 53, 86, 16, 32, CRC
+    yield wrong("a later frame in damage", flipped(data, [61, 83]), (5, 80), later)
+    data = numbered([0, 1, 2, 0, 1, 3, 4], of=5)
+    earlier = 64, 97, 32, 48, CRC
+    yield wrong("an earlier frame in damage", flipped(data, [72, 94]), (5, 80), earlier)
     for length in 55, 58, 63:
         place = 53, length, 16, 32, CUT
         yield wrong(f"cut at byte {length}", TWO[:length], (1, 16), place, said=32)
-    yield wrong("cut between frames", TWO[:53], (1, 16), said=32)
-    yield wrong("cut after a byte of a frame", TWO[:54], (1, 16), said=32, notes=(BYTE_NOTE,))
+    lost = 53, 53, 16, 32, "16 samples are missing"
+    yield wrong("cut between frames", TWO[:53], (1, 16), lost, said=32)
+    lost = 54, 54, 16, 32, "16 samples are missing"
+    yield wrong(
+        "cut after a byte of a frame", TWO[:54], (1, 16), lost, said=32, notes=(BYTE_NOTE,)
+    )
 
 
 def head_rows() -> Iterator[Row]:

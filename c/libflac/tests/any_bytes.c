@@ -1,29 +1,39 @@
-/* any_bytes ROUNDS: fills the subframes of frames whose header and bytes are drawn. Nothing outside of the bytes may be read,
- * and each call has to return: sanitizers see that. With -DFUZZED it is a target of libFuzzer. */
+/* any_bytes ROUNDS: fills the subframes of frames whose header, bytes and samples are drawn. Nothing outside of these may be
+ * read, and each call has to return: sanitizers see that. With -DFUZZED it is a target of libFuzzer. */
 #include "../decoder.h"
 
-/* Fills the subframes of bytes that are alone in their memory. Of the header `numbers` draws what counts. */
+/* Fills the subframes of bytes and samples that are alone in their memory, or without samples where the block is large. Of the
+ * header `numbers` draws what counts. */
 static unsigned fill(const uint8_t *bytes, size_t length, uint32_t numbers) {
     static const uint32_t widths[8] = {0, 8, 12, 16, 20, 24, 32, 4};
     FLAC__Frame frame;
     uint8_t *alone = (uint8_t *)malloc(length > 0 ? length : 1);
+    size_t i, count = numbers >> 16 <= RESIDUAL_MAX_SAMPLES ? (size_t)(numbers >> 16) * ((numbers & 7) + 1) : 0;
+    int32_t *samples = (int32_t *)malloc(count > 0 ? count * sizeof *samples : 1);
     unsigned channel, sum = 0;
-    if (!alone) {
+    if (!alone || !samples) {
+        free(alone);
+        free(samples);
         return 0;
     }
     if (length > 0) {
         memcpy(alone, bytes, length);
+    }
+    for (i = 0; i < count; i++) { /* mostly of 16 bits */
+        uint32_t drawn = ((uint32_t)i ^ numbers) * 2654435761u;
+        samples[i] = (int32_t)(drawn ^ (uint32_t)length << 20) >> (numbers >> 8 & 31);
     }
     memset(&frame, 0, sizeof frame);
     frame.header.blocksize = numbers >> 16;
     frame.header.channels = (numbers & 7) + 1;
     frame.header.channel_assignment = frame.header.channels == 2 ? (FLAC__ChannelAssignment)(numbers >> 3 & 3) : 0;
     frame.header.bits_per_sample = widths[numbers >> 5 & 7];
-    fill_subframes(&frame, alone, length);
+    fill_subframes(&frame, alone, length, samples);
     for (channel = 0; channel < FLAC__MAX_CHANNELS; channel++) {
         sum += frame.subframes[channel].type + frame.subframes[channel].wasted_bits;
     }
     free(alone);
+    free(samples);
     return sum;
 }
 

@@ -30,3 +30,5 @@ pub mod TagCalls
 pub mod TagEntries
 -- The reader of the next tag takes just what the definitions say.
 pub mod TagsRead
+-- What the calls answer for streams in pieces.
+pub mod StreamCalls

@@ -22,13 +22,13 @@ module _ (status : ℕ) (old new : List ℕ) where
   reported_io (IoError cause) is t = t.0
   reported_io OutOfMemory is t = absurd cc
 
-  reported_out_of_memory : (e : Error) → e ≡ OutOfMemory → ErrorIsReported e status old new → status ≡ out_of_memory
+  pub reported_out_of_memory : (e : Error) → e ≡ OutOfMemory → ErrorIsReported e status old new → status ≡ out_of_memory
   reported_out_of_memory (FormatError reason) is t = absurd cc
   reported_out_of_memory (Unsupported feature) is t = absurd cc
   reported_out_of_memory (IoError cause) is t = absurd cc
   reported_out_of_memory OutOfMemory is t = t.0
 
-  is_out_of_memory : (e : Error) → status ≡ out_of_memory → ErrorIsReported e status old new → e ≡ OutOfMemory
+  pub is_out_of_memory : (e : Error) → status ≡ out_of_memory → ErrorIsReported e status old new → e ≡ OutOfMemory
   is_out_of_memory (FormatError reason) is t = absurd cc
   is_out_of_memory (Unsupported feature) is t = absurd cc
   is_out_of_memory (IoError cause) is t = absurd cc

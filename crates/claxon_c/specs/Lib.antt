@@ -5,6 +5,10 @@ pub mod Contents
 pub mod NextMetadata
 pub mod NextBlock
 pub mod Seek
+pub mod HeldBytes
+pub mod Frames
+pub mod Search
+pub mod Head
 pub mod NextTag
 pub mod TagReader
 pub mod TagName

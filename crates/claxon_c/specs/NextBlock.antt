@@ -34,6 +34,8 @@ use Rattle.claxon.specs.FrameReader.{HeaderOfLargerBlock}
 use Rattle.claxon.specs.MetadataBlock.{or_zero}
 use Rattle.claxon.specs.Prefix.{BeginsWith}
 use Rattle.claxon_seek.specs.AtStart.{FrameAtStart}
+use Rattle.claxon_seek.specs.BlockMemory.{CountsRefusal}
+use Rattle.claxon_seek.specs.declared.memory.BlockMemory.{BlockMemory}
 use Rattle.claxon_c.specs.declared.heads.ClaxonInfo.{ClaxonInfo}
 use Rattle.claxon_c.specs.declared.next_block.ClaxonBlock.{ClaxonBlock}
 use Rattle.claxon_c.specs.Info.{known_stream}
@@ -250,3 +252,8 @@ module _ (info : ClaxonInfo) (bytes : List ℕ) (from capacity : ℕ) where
       (to ≡ from) × ((IsTooSmall status shown × (after ≡ before))
       ⊎ ((IsAtEnd status × (shown ≡ old) × (after ≡ before))
       ⊎ (IsRefused status before after × (shown ≡ old))))
+
+-- `out_of_memory` is returned exactly where a request for the memory of a block was refused.
+pub record BlockMemoryIsCounted {A : Type 0} (r : Result A ℕ) (old new : BlockMemory) : Type 0 where
+  pub refused : r ≡ Err out_of_memory → CountsRefusal old new
+  pub granted : (r ≡ Err out_of_memory → ⊥) → new ≡ old

@@ -44,11 +44,14 @@ buffer_too_small = 6
 abbrev pub over_budget : ℕ
 over_budget = 7
 
+abbrev pub need_more : ℕ
+need_more = 100
+
 -- as much of a text as the capacity allows, and a zero byte
 abbrev pub zero_terminated : List ℕ → ℕ → List ℕ
 zero_terminated text capacity = take (capacity - 1) text ++ 0 ∷ []
 
--- what a status means; 100 and 101 are those of `claxon_stream.h`
+-- what a status means; 101 is that of `claxon_stream.h`
 abbrev pub status_text : ℕ → List ℕ
 status_text status =
     if status == ok then codes "ok" else
@@ -59,7 +62,7 @@ status_text status =
     if status == no_more then codes "there is no more" else
     if status == buffer_too_small then codes "the samples don't fit" else
     if status == over_budget then codes "the search stopped at its budget" else
-    if status == 100 then codes "more bytes are needed" else
+    if status == need_more then codes "more bytes are needed" else
     if status == 101 then codes "reading or seeking failed" else
     codes "unknown status"
 

@@ -6,19 +6,26 @@
 mod contents;
 mod convert;
 mod crc;
+mod frames;
+mod head;
 mod heads;
+mod held;
 mod interleave;
 mod md5;
 mod metadata;
 mod next_block;
 mod planar;
+mod search;
 mod seek;
 mod status;
 mod tags;
 mod version;
 
 pub use claxon_md5::Md5;
+pub use frames::ClaxonFrames;
+pub use head::ClaxonHead;
 pub use heads::ClaxonInfo;
 pub use metadata::ClaxonMetadata;
 pub use next_block::ClaxonBlock;
+pub use search::ClaxonSearch;
 pub use tags::ClaxonTag;

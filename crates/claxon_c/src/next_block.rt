@@ -2,6 +2,7 @@
 ghost use Rattle.std.specs.Prelude.{◌↔◌, IsTrue, Some, length};
 ghost use Rattle.claxon_c.specs.NextBlock.{
   BlockIsKept,
+  BlockMemoryIsCounted,
   CBlockElseIoError,
   CBlockFaultIsComplete,
   CBlockFaultIsSound,
@@ -103,7 +104,8 @@ pub extern "C" fn claxon_next_block(
     ensures block_is_kept { BlockIsKept result block.old block.new }
     ensures text_is_kept { TextIsKept result error.old error.new }
 {
-    match next_block(alloc, bytes, at, info, samples.len(), block, error) {
+    let mut memory = BlockMemory::new(alloc);
+    match next_block(&mut memory, bytes, at, info, samples.len(), block, error) {
         Ok(found) => {
             put_interleaved(&found, samples);
             OK
@@ -151,7 +153,8 @@ pub extern "C" fn claxon_next_block_planar(
     ensures block_is_kept { BlockIsKept result block.old block.new }
     ensures text_is_kept { TextIsKept result error.old error.new }
 {
-    match next_block(alloc, bytes, at, info, samples.len(), block, error) {
+    let mut memory = BlockMemory::new(alloc);
+    match next_block(&mut memory, bytes, at, info, samples.len(), block, error) {
         Ok(found) => {
             put_planar(found, samples);
             OK
@@ -162,7 +165,7 @@ pub extern "C" fn claxon_next_block_planar(
 
 // The block of the frame at the position, which is moved after it, if the capacity suffices for its samples. Else the status.
 fn next_block(
-    alloc: Global,
+    memory: &mut BlockMemory,
     bytes: &[u8],
     at: &mut usize,
     info: &ClaxonInfo,
@@ -172,6 +175,7 @@ fn next_block(
 ) -> Result<Block, u32>
     ensures next_block { NextBlock info.now bytes.now at.old capacity result at.new
         block.old block.new error.old error.new }
+    ensures memory_is_counted { BlockMemoryIsCounted result memory.old memory.new }
 {
     let start = bytes.len().min(*at);
     let rest = &bytes[start..];
@@ -187,8 +191,8 @@ fn next_block(
         return Err(BUFFER_TOO_SMALL);
     }
     let mut count = 0;
-    let mut memory = BlockMemory::new(alloc);
-    match rest_at_start(&mut memory, rest, known, header, &mut count) {
+    let decoded = rest_at_start(memory, rest, known, header, &mut count);
+    match decoded {
         Ok(found) => {
             *block = ClaxonBlock::from_header(&said);
             *at = start + count;

@@ -19,6 +19,8 @@ pub(crate) const BUFFER_TOO_SMALL: u32 = 6;
 
 pub(crate) const OVER_BUDGET: u32 = 7;
 
+pub(crate) const NEED_MORE: u32 = 100;
+
 /// Writes what a status means, of `claxon_stream.h` too.
 #[unsafe(no_mangle)]
 pub extern "C" fn claxon_status_text(status: u32, text: &mut [u8])

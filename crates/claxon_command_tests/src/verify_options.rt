@@ -5,8 +5,9 @@ use std::alloc::{AllocError, Global};
 use std::test::Fail;
 
 // Arguments, and what they ask for: the options as letters, `m` without the MD5 sum, `b` brief, `j` JSON, `q` quiet,
-// `r` recursive and `s` with a summary, and the operands after `:` or the list after `<`; or what is printed.
-const ROWS: [(&[&str], &str); 22] = [
+// `r` recursive and `s` with a summary; `p` with how many places are told after the first, where that isn't 999; and the operands
+// after `:` or the list after `<`; or what is printed.
+const ROWS: [(&[&str], &str); 27] = [
     (&["a.flac"], ":a.flac"),
     (&["a", "-", "b"], ":a:-:b"),
     (&["--no-md5", "a"], "m:a"),
@@ -29,6 +30,11 @@ const ROWS: [(&[&str], &str); 22] = [
     (&["--summary", "-r", "a"], "rs:a"),
     (&["--files0-from", "\0a\\xff"], "not UTF-8"),
     (&["a", "-V"], "version"),
+    (&["--places", "7", "a"], "p6:a"),
+    (&["--places", "1", "--places", "2", "a"], "p1:a"),
+    (&["--places", "0", "a"], "usage"),
+    (&["--places", "7x", "a"], "usage"),
+    (&["a", "--places"], "usage"),
 ];
 
 fn words(alloc: Global, row: &[&str]) -> Result<Vec<String>, AllocError> {
@@ -52,6 +58,10 @@ fn letters(alloc: Global, options: Options) -> Result<String, AllocError> {
         if is_set {
             text.push_str(letter)?;
         }
+    }
+    if options.more_places != 999 {
+        let places = options.more_places;
+        write!(&mut text, "p{places}")?;
     }
     Ok(text)
 }

@@ -13,9 +13,9 @@ use Rattle.std.specs.Prelude.{
   IfOk,
 }
 use Rattle.std.specs.Borrow.{Bor}
-use Rattle.claxon_command_line.specs.Arguments.{operands_total}
 use Rattle.claxon_command_line.specs.declared.arguments.Notice.{Notice}
 use Rattle.claxon_command_line.specs.declared.arguments.Notice.TheVariants.{Usage}
+use Rattle.claxon_commands.specs.declared.verify.options.FileNames.{FileNames}
 use Rattle.claxon_commands.specs.declared.verify.options.NamedFiles.{NamedFiles}
 use Rattle.claxon_commands.specs.declared.verify.options.NamedFiles.TheVariants.{
   List as NamedInList,
@@ -23,11 +23,15 @@ use Rattle.claxon_commands.specs.declared.verify.options.NamedFiles.TheVariants.
 }
 use Rattle.claxon_commands.specs.declared.verify.options.VerifyRequest.{VerifyRequest}
 
+-- how many operands there are
+abbrev pub names_total : FileNames → ℕ
+names_total names = names.count
+
 -- There is a list and no operand, or there are operands and no list.
 abbrev pub AreFiles : Option (Bor (List ℕ)) → ℕ → NamedFiles → Type 0
 AreFiles list count (NamedInList name) = (list ≡ Some name) × (count ≡ 0)
-AreFiles list count (NamedByOperands operands) =
-    (list ≡ None) × (operands_total operands ≡ count) × (0 < count)
+AreFiles list count (NamedByOperands names) =
+    (list ≡ None) × (names_total names ≡ count) × (0 < count)
 
 -- An Ok is just that. An Err is the usage line, of neither or both.
 abbrev pub FilesAre : Option (Bor (List ℕ)) → ℕ → Result NamedFiles Notice → Type 0
@@ -38,7 +42,7 @@ FilesAre (Some name) count (Err notice) = (notice ≡ Usage) × (0 < count)
 -- Where operands name the files, there is one or more.
 abbrev pub HasFiles : NamedFiles → Type 0
 HasFiles (NamedInList name) = Unit {0}
-HasFiles (NamedByOperands operands) = 0 < operands_total operands
+HasFiles (NamedByOperands names) = 0 < names_total names
 
 abbrev pub RequestIsSound : Result VerifyRequest Notice → Type 0
 RequestIsSound r = IfOk r (λ request. HasFiles request.files)

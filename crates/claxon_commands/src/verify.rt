@@ -1,7 +1,6 @@
 //! The command `verify`: whether FLAC files are right.
 use claxon::Error;
 use claxon::input::BufferedReader;
-use claxon_command_line::arguments::Operands;
 use claxon_command_line::folders::{
     add_contents, is_flac_name, is_folder, is_no_file, is_real_folder,
 };
@@ -25,12 +24,12 @@ use std::str;
 
 pub mod options;
 
-use options::{NamedFiles, Options, VerifyRequest, parse};
+use options::{FileNames, NamedFiles, Options, VerifyRequest, parse};
 
 /// What the command says about itself.
 pub const PROGRAM: Program = Program {
     name: "claxon verify",
-    arguments: "[--no-md5] [--brief] [--json] [-q] [-r] [--summary] [--files0-from FILE] [--] FILE..",
+    arguments: "[--no-md5] [--brief] [--json] [-q] [-r] [--summary] [--places N] [--files0-from FILE] [--] FILE..",
     commands: &[],
     help: "Decodes FLAC files to their ends and says of each, in a line, whether it is
 right: every frame can be decoded, none is missing or repeated, all have the
@@ -53,6 +52,8 @@ and not wrong.
              .FLAC, in order of names; pipes and devices are passed over, and
              symbolic links to folders aren't followed
   --summary  prints last how many files are right, wrong and so on
+  --places N prints at most N places of a file, 1000 without this option, and
+             counts the others
   --files0-from FILE
              reads the names of the files from this file, or from standard
              input for -; each ends with a zero byte, as of find -print0
@@ -136,7 +137,7 @@ fn finish<W: Write, E: Write>(
 fn verify_operands<Q: Files + AllocGlobal, I: Read + Copy, W: Write, E: Write>(
     rt: &Q,
     job: Job,
-    names: Operands<'_>,
+    names: FileNames<'_>,
     input: I,
     output: &mut W,
     errors: &mut E,
@@ -407,7 +408,13 @@ where
     let front = front_of(rt.alloc(), &mut input)?;
     let format = container(front.as_slice());
     let mut input = BufferedReader::new(rt.alloc(), Cursor::new(front).chain(input))?;
-    match verify(rt.alloc(), &mut input, options.computes_md5, progress) {
+    match verify(
+        rt.alloc(),
+        &mut input,
+        options.computes_md5,
+        options.more_places,
+        progress,
+    ) {
         Err(Error::FormatError(_)) if let Some(format) = format => Err(Error::Unsupported(format)),
         answer => answer,
     }

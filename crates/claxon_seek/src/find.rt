@@ -175,7 +175,7 @@ pub(crate) fn wanted_header(
     requires { IfSome known.now (λ info. HasBitDepth info) }
     ensures at_start { WantedHeaderAtStart known.now sample bytes.now result }
 {
-    if lacks_sync_code(bytes) || has_invalid_rate(bytes) {
+    if shows_no_header(bytes) {
         return HeaderThere::NotWanted;
     }
     read_wanted_header(bytes, known, sample)
@@ -201,6 +201,15 @@ fn read_wanted_header(bytes: &[u8], known: &Option<StreamInfo>, sample: Option<u
         Err(Error::Unsupported(_)) => HeaderThere::NotWanted,
         Err(Error::OutOfMemory) => HeaderThere::NotWanted,
     }
+}
+
+/// Whether the first bytes show that no frame header begins there, whatever follows. Where they don't, there may be none all the same.
+/// (RFC 9639, section 9.1.)
+#[inline(always)]
+pub fn shows_no_header(bytes: &[u8]) -> bool
+    ensures no_header { IsTrue result → NoHeaderAtStart bytes.now }
+{
+    lacks_sync_code(bytes) || has_invalid_rate(bytes)
 }
 
 // Whether the bytes have two bytes that aren't a sync code and a reserved bit of 0, with which each frame header begins.

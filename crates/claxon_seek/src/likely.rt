@@ -9,43 +9,40 @@ use crate::search::FoundFrame;
 use claxon::frame::BlockInfo;
 use claxon::metadata::StreamInfo;
 
-// How many headers are read at most, and how many before each other step halves the bytes.
-pub(crate) const MAX_STEPS: u32 = 96;
+/// How many headers are read at most.
+pub const MAX_STEPS: u32 = 96;
 
+// How many before each other step halves the bytes.
 const STEPS_BY_TIME: u32 = 8;
 
-// Positions between which the frame is, if times ascend.
-#[derive(Clone, Copy)]
-pub(crate) struct Span {
+/// Positions between which the frame is, if times ascend.
+#[derive(Clone, Copy, Debug)]
+pub struct Span {
     // The position after a frame that ends at `start_time`, or of the first frame.
     start: usize,
     start_time: u64,
     // A position from which on frames are later than the sample, and the time of the first of them, if it is known.
-    pub(crate) end: usize,
+    pub end: usize,
     end_time: Option<u64>,
     ghost ordered: { start ≤ end },
 }
 
-// What a header says of the search.
+/// What a header says of the search.
 #[derive(Clone, Copy)]
-pub(crate) enum Step {
-    // The header at this position says that its block has the sample.
+pub enum Step {
+    /// The header at this position says that its block has the sample.
     There(usize),
+    /// The frame is between these.
     Between(Span),
-    // There are no positions left.
+    /// There are no positions left.
     Nowhere,
 }
 
 impl Span {
     ghost use Rattle.claxon_seek.specs.Likely.{StepsWithin};
 
-    // All positions from the first frame's to the end.
-    pub(crate) fn whole(
-        first_frame: usize,
-        end: usize,
-        known: Option<StreamInfo>,
-        sample: u64,
-    ) -> Span
+    /// All positions from the first frame's to the end.
+    pub fn whole(first_frame: usize, end: usize, known: Option<StreamInfo>, sample: u64) -> Span
         requires { first_frame ≤ end }
         ensures start { result.start ≡ first_frame }
         ensures end { result.end ≡ end }
@@ -58,8 +55,8 @@ impl Span {
         }
     }
 
-    // The position to read on from for a header: that of the block before the sample's, if all samples took as many bytes.
-    pub(crate) fn guess(&self, step: u32, sample: u64, block_size: u64) -> usize
+    /// The position to read on from for a header: that of the block before the sample's, if all samples took as many bytes.
+    pub fn guess(&self, step: u32, sample: u64, block_size: u64) -> usize
         ensures at_least { self.now.start ≤ result }
         ensures at_most { result ≤ self.now.end }
     {
@@ -114,8 +111,8 @@ impl Span {
         }
     }
 
-    // What the first header from the position on says, if there is one.
-    pub(crate) fn step(&self, from: usize, found: Option<FoundFrame>, sample: u64) -> Step
+    /// What the first header from the position on says, if there is one.
+    pub fn step(&self, from: usize, found: Option<FoundFrame>, sample: u64) -> Step
         requires after_start { self.now.start ≤ from }
         requires before_end { from ≤ self.now.end }
         requires found { IfSome found (λ f. (from ≤ f.position) × (f.position < self.now.end)) }
@@ -129,8 +126,8 @@ impl Span {
         }
     }
 
-    // Whether a header between the positions can say this.
-    fn is_likely(&self, block: &BlockInfo) -> bool {
+    /// Whether a header between the positions can say this.
+    pub fn is_likely(&self, block: &BlockInfo) -> bool {
         block.time >= self.start_time
             && match self.end_time {
                 Some(end_time) => block.time < end_time,
@@ -170,8 +167,8 @@ pub(crate) fn likely_position(
     None
 }
 
-// The streaminfo's, or 0.
-pub(crate) fn max_block_size(known: Option<StreamInfo>) -> u64 {
+/// The streaminfo's, or 0.
+pub fn max_block_size(known: Option<StreamInfo>) -> u64 {
     known.map_or(0, |info| u64::from(info.max_block_size))
 }
 

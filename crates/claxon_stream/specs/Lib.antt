@@ -12,6 +12,7 @@ pub mod HeadPart
 pub mod HeadRules
 pub mod HeadState
 pub mod Held
+pub mod KeptHead
 pub mod Laws
 pub mod Noted
 pub mod Search

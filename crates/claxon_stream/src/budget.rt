@@ -1,5 +1,5 @@
 //! How much work may lead to no frame.
-ghost use Rattle.std.specs.Prelude.{◌≡◌, ◌↔◌, ◌+◌, ◌-◌, ◌≤◌, IsTrue, max};
+ghost use Rattle.std.specs.Prelude.{◌≡◌, ◌↔◌, ◌-◌, ◌≤◌, IsTrue, max};
 
 // How much work that led to no frame, in bytes and samples, is allowed: of a decoder before it makes no tries where the CRC-16 is 0, of
 // a search before it passes headers over.
@@ -11,9 +11,10 @@ const MAX_WASTED: u64 = 1 << 26;
 // passes the budget was made to cost time, or is very much silence, with damage in each of its frames.
 const MADE_GOOD_BY_A_BYTE: u64 = 32;
 
-// The work that led to no frame.
+/// The work that led to no frame.
+#[repr(C)]
 #[derive(Clone, Copy, Debug)]
-pub(crate) struct Budget {
+pub struct Budget {
     // What wasn't made good yet.
     wasted: u64,
     // The position in the stream after the last byte that was counted.
@@ -30,7 +31,8 @@ impl Budget {
       work_left,
     };
 
-    pub(crate) fn new(position: u64) -> Budget
+    /// No work was in vain, and bytes are counted from this position on.
+    pub fn new(position: u64) -> Budget
         ensures wasted { wasted_work result ≡ 0 }
         ensures counted { counted_position result ≡ position }
     {
@@ -40,22 +42,22 @@ impl Budget {
         }
     }
 
-    // Whether no more work in vain is allowed.
-    pub(crate) fn is_spent(&self) -> bool
+    /// Whether no more work in vain is allowed.
+    pub fn is_spent(&self) -> bool
         ensures { IsTrue result ↔ IsSpent self.now }
     {
         self.wasted > MAX_WASTED
     }
 
-    // Whether it suffices for so much more work.
-    pub(crate) fn suffices_for(&self, work: u64) -> bool
+    /// Whether it suffices for so much more work.
+    pub fn suffices_for(&self, work: u64) -> bool
         ensures { IsTrue result ↔ (work ≤ work_left (wasted_work self.now)) }
     {
         work <= MAX_WASTED.saturating_sub(self.wasted)
     }
 
-    // The same, where the bytes from this position on weren't counted yet.
-    pub(crate) fn counted_from(self, position: u64) -> Budget
+    /// The same, where the bytes from this position on weren't counted yet.
+    pub fn counted_from(self, position: u64) -> Budget
         ensures wasted { wasted_work result ≡ wasted_work self }
         ensures counted { counted_position result ≡ position }
     {
@@ -65,8 +67,8 @@ impl Budget {
         }
     }
 
-    // Bytes up to this position were handed in, or passed.
-    pub(crate) fn make_good(&mut self, end: u64)
+    /// Bytes up to this position were handed in, or passed.
+    pub fn make_good(&mut self, end: u64)
         ensures wasted { wasted_work self.new
             ≡ made_good (wasted_work self.old) (end - counted_position self.old) }
         ensures counted { counted_position self.new ≡ max (counted_position self.old) end }
@@ -77,8 +79,8 @@ impl Budget {
         self.seen = self.seen.max(end);
     }
 
-    // So many bytes and samples were tried in vain.
-    pub(crate) fn charge(&mut self, work: u64)
+    /// So many bytes and samples were tried in vain.
+    pub fn charge(&mut self, work: u64)
         ensures wasted { wasted_work self.new ≡ charged (wasted_work self.old) work }
         ensures counted { counted_position self.new ≡ counted_position self.old }
     {

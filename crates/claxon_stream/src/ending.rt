@@ -6,6 +6,7 @@ use claxon::running::Running;
 
 // What is known of the end of a frame, by its first bytes. Its CRC-16 is kept from one piece to the next, so most bytes cost no try to
 // decode it: a frame ends only where that is 0.
+#[repr(C)]
 #[derive(Clone, Copy, Debug)]
 pub(crate) struct FrameEnd {
     // How many bytes were tried last, in vain.

@@ -28,6 +28,9 @@ use std::alloc::Global;
 ///
 /// After a frame was found a `FrameDecoder` may go on at `finder.position()`. After its next fault `go_on` keeps what was charged, so that
 /// the time of all searches is linear.
+///
+/// In memory it is laid out as the same struct in C.
+#[repr(C)]
 #[derive(Clone, Copy, Debug)]
 pub struct FrameFinder {
     // At the position from which on is searched.

@@ -36,6 +36,9 @@ use claxon::{Error, Result};
 ///     }
 /// }
 /// ```
+///
+/// A copy goes on by itself. In memory a decoder is laid out as the same struct in C.
+#[repr(C)]
 #[derive(Clone, Copy, Debug)]
 pub struct FrameDecoder {
     position: u64,
@@ -79,8 +82,8 @@ impl FrameDecoder {
         }
     }
 
-    // A decoder of the frames from another position on, with the same budget.
-    pub(crate) fn from_position(&self, at: u64) -> FrameDecoder
+    /// A decoder of the frames from another position on, as after damage. What was charged is kept, so that the time stays linear.
+    pub fn from_position(&self, at: u64) -> FrameDecoder
         ensures { IsFromPosition self.now at result }
     {
         FrameDecoder {
@@ -179,8 +182,8 @@ impl FrameDecoder {
     }
 }
 
-// The bytes that are held from a position on: none where they begin after it.
-pub(crate) fn held_from(bytes: &[u8], at: u64, position: u64) -> &[u8]
+/// The bytes that are held from a position on: none where they begin after it.
+pub fn held_from(bytes: &[u8], at: u64, position: u64) -> &[u8]
     ensures { result.now ≡ held_from at position bytes.now }
 {
     if position < at {
@@ -190,8 +193,8 @@ pub(crate) fn held_from(bytes: &[u8], at: u64, position: u64) -> &[u8]
     &bytes[passed..]
 }
 
-// Whether the stream is known to end with them.
-pub(crate) fn ends_there(is_end: bool, at: u64, position: u64) -> bool
+/// Whether the stream is known to end with them.
+pub fn ends_there(is_end: bool, at: u64, position: u64) -> bool
     ensures { result ≡ ends_there at position is_end }
 {
     at <= position && is_end

@@ -8,6 +8,7 @@ ghost use Rattle.claxon_stream.specs.HeadState.{
 };
 
 mod event;
+mod kept;
 mod laws;
 mod part;
 mod rules;
@@ -16,6 +17,7 @@ use crate::event::{NeededBytes, StreamFault};
 use crate::frames::{ends_there, held_from};
 use claxon::{Error, FlacReaderOptions, Result};
 pub use event::{HeadEvent, MetadataBlockHeader};
+pub use kept::KeptHead;
 pub use laws::{
     head_answers_are_complete, head_answers_are_read_heads, head_answers_are_reading,
     head_cuts_dont_matter, one_head_answer,
@@ -40,6 +42,8 @@ use std::alloc::Allocator;
 ///     }
 /// }
 /// ```
+///
+/// C keeps it as a `KeptHead`.
 #[derive(Clone, Copy, Debug)]
 pub struct HeadDecoder {
     // The position of the first byte that is needed.

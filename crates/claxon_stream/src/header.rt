@@ -1,33 +1,32 @@
 //! The frame header that bytes begin with, if it is one of the stream.
 ghost use Rattle.std.specs.Prelude.{◌↔◌, IfSome, IsTrue};
 ghost use Rattle.claxon.specs.ShownHead.{HasBitDepth};
-ghost use Rattle.claxon_seek.specs.AtStart.{NoHeaderAtStart};
 ghost use Rattle.claxon_seek.specs.Find.{HasFormat};
 ghost use Rattle.claxon_stream.specs.HeaderThere.{HeaderIsThere};
 
 use claxon::Error;
 use claxon::frame::BlockInfo;
 use claxon::metadata::StreamInfo;
-use claxon_seek::header_at_start;
+use claxon_seek::{header_at_start, shows_no_header};
 
-// What is known of the header that bytes begin with.
+/// What is known of the header that bytes begin with.
 #[derive(Clone, Copy)]
-pub(crate) enum HeaderThere {
-    // It has the stream's number of channels and bit depth, where these are known, and says this of its block.
+pub enum HeaderThere {
+    /// It has the stream's number of channels and bit depth, where these are known, and says this of its block.
     Wanted(BlockInfo),
-    // There is none of the stream, whatever follows.
+    /// There is none of the stream, whatever follows.
     NotWanted,
-    // The bytes end within it.
+    /// The bytes end within it.
     CutHeader,
 }
 
-// The header that the bytes begin with. The streaminfo is lent, as it is asked for at each position.
+/// The header that the bytes begin with. The streaminfo is lent, as it is asked for at each position.
 #[inline(always)]
-pub(crate) fn header_there(bytes: &[u8], known: &Option<StreamInfo>) -> HeaderThere
+pub fn header_there(bytes: &[u8], known: &Option<StreamInfo>) -> HeaderThere
     requires { IfSome known.now (λ info. HasBitDepth info) }
     ensures is_there { HeaderIsThere known.now bytes.now result }
 {
-    if lacks_sync_code(bytes) {
+    if shows_no_header(bytes) {
         return HeaderThere::NotWanted;
     }
     read_header(bytes, known)
@@ -53,15 +52,6 @@ fn read_header(bytes: &[u8], known: &Option<StreamInfo>) -> HeaderThere
         Err(Error::Unsupported(_)) => HeaderThere::NotWanted,
         Err(Error::OutOfMemory) => HeaderThere::NotWanted,
     }
-}
-
-// Whether the bytes have two bytes that aren't a sync code and a reserved bit of 0, with which each frame header begins (RFC 9639,
-// section 9.1).
-#[inline(always)]
-fn lacks_sync_code(bytes: &[u8]) -> bool
-    ensures { IsTrue result → NoHeaderAtStart bytes.now }
-{
-    bytes.len() >= 2 && (bytes[0] != 0xff || bytes[1] / 2 != 0x7c)
 }
 
 fn has_format(block: &BlockInfo, known: Option<StreamInfo>) -> bool

@@ -58,11 +58,13 @@ use Rattle.claxon_verify.specs.Verify.{NothingIsWrong}
 use Rattle.claxon_verify.specs.declared.report.BlockSizes.{BlockSizes}
 use Rattle.claxon_verify.specs.declared.report.Damage.{Damage}
 use Rattle.claxon_verify.specs.declared.report.Damage.TheVariants.{
+  Beyond,
   BitDepth,
   BlockingStrategy,
   Channels,
   Fault as NotDecoded,
   Missing,
+  OutOfOrder,
   Repeated,
   SampleRate,
   WideSample,
@@ -81,7 +83,13 @@ use Rattle.claxon_verify.specs.declared.report.UnsupportedBlock.TheVariants.{
   SecondComments,
 }
 use Rattle.claxon_verify.specs.declared.report.Trailing.{Trailing}
-use Rattle.claxon_verify.specs.declared.report.Trailing.TheVariants.{Ape, Id3v1, Other, Zeros}
+use Rattle.claxon_verify.specs.declared.report.Trailing.TheVariants.{
+  Ape,
+  Id3v1,
+  Other,
+  SecondStream,
+  Zeros,
+}
 
 -- ---- what is said of a file
 
@@ -224,6 +232,15 @@ gap_text gap what =
     count_text gap.count (counted_thing gap.is_variable) ++ codes " "
     ++ (if gap.count == 1 then codes "is" else codes "are") ++ what
 
+-- what is wrong, where nothing is counted
+abbrev pub other_damage : Damage → List ℕ
+other_damage BlockingStrategy = codes "the blocking strategy differs from the first frame's"
+other_damage Repeated = codes "frames are repeated"
+other_damage OutOfOrder = codes "frames are out of order"
+other_damage WideSample = codes "a sample has more bits than the streaminfo says"
+other_damage Beyond = codes "frames after the streaminfo's last sample"
+other_damage damage = codes ""
+
 -- An Ok says what is wrong, and what the streaminfo says.
 abbrev pub DamageTextIsSound : {A : Type 0} → StreamInfo → Damage → Result (String A) AllocError
     → Type 0
@@ -236,12 +253,8 @@ DamageTextIsSound info (BitDepth count) r =
     ++ (codes " per sample, but the streaminfo says " ++ decimal info.bits_per_sample)) r
 DamageTextIsSound info (SampleRate rate) r =
     IsText (decimal rate ++ (codes " Hz, but the streaminfo says " ++ decimal info.sample_rate)) r
-DamageTextIsSound info BlockingStrategy r =
-    IsText (codes "the blocking strategy differs from the first frame's") r
 DamageTextIsSound info (Missing gap) r = IsText (gap_text gap (codes " missing")) r
-DamageTextIsSound info (Repeated gap) r = IsText (gap_text gap (codes " repeated")) r
-DamageTextIsSound info WideSample r =
-    IsText (codes "a sample has more bits than the streaminfo says") r
+DamageTextIsSound info damage r = IsText (other_damage damage) r
 
 -- what is noted of a fixed block size that changes
 abbrev pub size_note : BlockSizes → List ℕ
@@ -258,6 +271,7 @@ abbrev pub trailing_name : Trailing → List ℕ
 trailing_name Id3v1 = codes ": an ID3v1 tag"
 trailing_name Ape = codes ": an APE tag"
 trailing_name Zeros = codes ": zeros"
+trailing_name SecondStream = codes ": a second stream begins"
 trailing_name Other = codes ""
 
 -- so many bytes after the last frame

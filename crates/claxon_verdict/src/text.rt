@@ -8,6 +8,7 @@ ghost use Rattle.claxon_verdict.specs.Verdict.{
   FrameTextIsSound,
   HeadErrorTextIsSound,
   gap_text,
+  other_damage,
   size_note,
   trailing_name,
   trailing_text,
@@ -87,7 +88,7 @@ fn right_text(alloc: Global, report: &Report) -> Result<String, AllocError> {
 }
 
 /// What is unusual in a stream, but not wrong, and whether it is so. `size_note` isn't among them.
-pub fn notes(report: &Report) -> [(bool, &'static str); 5] {
+pub fn notes(report: &Report) -> [(bool, &'static str); 6] {
     let notes = report.found.notes;
     [
         (matches!(report.md5, Md5Verdict::Missing), "no MD5 sum"),
@@ -101,6 +102,7 @@ pub fn notes(report: &Report) -> [(bool, &'static str); 5] {
             "a frame size is out of the streaminfo's bounds",
         ),
         (notes.has_byte_left, "1 byte after the last frame"),
+        (notes.has_failed_read, "a read failed"),
     ]
 }
 
@@ -124,6 +126,9 @@ fn wrong_text(alloc: Global, report: &Report, is_brief: bool) -> Result<String, 
     let mut text = String::from_str(alloc, "wrong")?;
     push_counts(alloc, &mut text, &report.found)?;
     let is_expected = push_expected(&mut text, report)?;
+    if report.found.notes.has_failed_read {
+        text.push_str(", a read failed")?;
+    }
     match &report.found.places.first {
         Some(first) => {
             push_unsupported(alloc, &mut text, report)?;
@@ -250,6 +255,7 @@ fn trailing_name(trailing: Trailing) -> &'static str
         Trailing::Id3v1 => ": an ID3v1 tag",
         Trailing::Ape => ": an APE tag",
         Trailing::Zeros => ": zeros",
+        Trailing::SecondStream => ": a second stream begins",
         Trailing::Other => "",
     }
 }
@@ -278,15 +284,22 @@ fn damage_text(alloc: Global, info: &StreamInfo, damage: &Damage) -> Result<Stri
             let (rate, said) = (*rate, info.sample_rate);
             format!(in alloc; "{rate} Hz, but the streaminfo says {said}")
         }
-        Damage::BlockingStrategy => String::from_str(
-            alloc,
-            "the blocking strategy differs from the first frame's",
-        ),
         Damage::Missing(gap) => gap_text(alloc, *gap, " missing"),
-        Damage::Repeated(gap) => gap_text(alloc, *gap, " repeated"),
-        Damage::WideSample => {
-            String::from_str(alloc, "a sample has more bits than the streaminfo says")
-        }
+        _ => String::from_str(alloc, other_damage(damage)),
+    }
+}
+
+// What is wrong, where nothing is counted.
+fn other_damage(damage: &Damage) -> &'static str
+    ensures { result.now ≡ other_damage damage.now }
+{
+    match damage {
+        Damage::BlockingStrategy => "the blocking strategy differs from the first frame's",
+        Damage::Repeated => "frames are repeated",
+        Damage::OutOfOrder => "frames are out of order",
+        Damage::WideSample => "a sample has more bits than the streaminfo says",
+        Damage::Beyond => "frames after the streaminfo's last sample",
+        _ => "",
     }
 }
 

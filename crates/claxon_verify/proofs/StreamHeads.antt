@@ -1,8 +1,9 @@
 -- The head of a stream of which blocks may be passed over, in the steps of the code.
-use Rattle.std.proofs.Common.{◌≡◌, ℕ, zero, suc, ◌+◌, ◌-◌, ◌<◌, ◌≤◌, ◌%◌, ◌^◌, Bool, true, false, cond, ltb, List, ◌++◌, length, Option, None, Some, refl, sym, ap, ◌∙◌, arith, append_assoc, length-append}
+use Rattle.std.proofs.Common.{◌≡◌, ℕ, zero, suc, ◌+◌, ◌-◌, ◌<◌, ◌≤◌, ◌%◌, ◌^◌, Bool, true, false, cond, ltb, List, [], ◌∷◌, ◌++◌, length, Option, None, Some, refl, sym, ap, ◌∙◌, arith, append_assoc, length-append}
 use Rattle.std.specs.Prelude.{Result, Ok, Err}
 use Rattle.std.specs.Option.{option_or}
 use Rattle.std.proofs.lemmas.Bool.{ltb-true, lt-ltb}
+use Rattle.claxon_format.specs.Codes.{Each}
 use Rattle.claxon_format.specs.Fault.{Fault, SecondStreaminfo, StreaminfoMissing, TooManyBlocks}
 use Rattle.claxon_format.specs.Heads.{stream_marker}
 use Rattle.claxon_format.specs.Metadata.{BlockHeader, BlockHeaderCode}
@@ -13,6 +14,7 @@ use Rattle.claxon_format.specs.read.Heads.{marker_at}
 use Rattle.claxon_format.specs.read.Metadata.{block_header_at}
 use Rattle.claxon_format.specs.read.MetadataBlocks.{body_at}
 use Rattle.claxon_format.specs.read.Reading.{Reading, Done, Faulty, Incomplete, bind, test, done}
+use Rattle.claxon_format.proofs.Heads.{Reads-marker}
 use Rattle.claxon_format.proofs.Metadata.{Reads-bytes}
 use Rattle.claxon_input.specs.declared.error.Error.{Error}
 use Rattle.claxon_input.specs.declared.error.Error.TheVariants.{IoError, FormatError, Unsupported, OutOfMemory}
@@ -27,11 +29,12 @@ use Rattle.claxon_input.proofs.ConsecutiveCalls.{StopsAs, consumes_map, consumes
 use Rattle.claxon_metadata.specs.MetadataBlock.{MayRunOutOfMemory, info_view}
 use Rattle.claxon_metadata.specs.declared.metadata.streaminfo.StreamInfo.{StreamInfo}
 use Rattle.claxon_metadata.proofs.ContentByType.{stops_with}
-use Rattle.claxon_verify.specs.StreamHead.{BlocksBefore, FoundBlock, FoundContent, HeadNeedsMemory, IsInfoOf, NeedsMemory, NeedsMemoryAfterBlocks, TellsWhy, after_first_found, first_found, found_block_at, found_blocks_at, found_content, found_content_at, found_head_at, is_found_info, left_at, none_seen, other_found_at, seen_after, unsupported_by}
+use Rattle.claxon_verify.specs.StreamHead.{FoundBlock, FoundBlockCode, FoundContent, HeadNeedsMemory, IsInfoOf, NeedsMemory, NeedsMemoryAfterBlocks, TellsWhy, after_first_found, first_found, found_block_at, found_blocks_at, found_content, found_content_at, found_head_at, is_found_info, left_at, none_seen, other_found_at, seen_after, unsupported_by}
 use Rattle.claxon_verify.specs.Verify.{counted_bytes, position_of}
 use Rattle.claxon_verify.specs.declared.BytesRead.{BytesRead}
 use Rattle.claxon_verify.specs.declared.head.Seen.{Seen}
 use Rattle.claxon_verify.specs.declared.report.UnsupportedBlock.{UnsupportedBlock}
+use Rattle.claxon_verify.proofs.FoundHeads.{Reads-found_block}
 use Rattle.claxon_verify.proofs.Walking.{front_of}
 
 -- ---- content that is passed over
@@ -226,6 +229,11 @@ blocks_stop_here (suc k) seen s some = go (found_block_at s)
 
 -- ---- blocks that were read
 
+-- s begins with so many blocks, and then m is left
+abbrev pub BlocksBefore : ℕ → List ℕ → List ℕ → Type 0
+BlocksBefore zero s m = s ≡ m
+BlocksBefore (suc count) s m = (b : FoundBlock) × (n : List ℕ) × (found_block_at s ≡ Done b n) × BlocksBefore count n m
+
 -- so many, whatever their number is
 abbrev pub SomeBlocksBefore : List ℕ → List ℕ → Type 0
 SomeBlocksBefore s m = (count : ℕ) × BlocksBefore count s m
@@ -361,15 +369,27 @@ memory_later {r = r} {e = e} P Q p w h f out known =
 pub needs_after_header : (h : BlockHeader) (s m : List ℕ) → (t : List ℕ) × BlockHeaderCode h t × (s ≡ t ++ m) → MayRunOutOfMemory h.type h.length m → NeedsMemory s
 needs_after_header h s m t may = (h, t.0, m, t.1, may, t.2)
 
+-- their codes
+blocks_of : (count : ℕ) (s m : List ℕ) → BlocksBefore count s m → (blocks : List FoundBlock) × (before : List ℕ) × Each FoundBlockCode blocks before × (s ≡ before ++ m)
+blocks_of zero s m e = ([], [], refl, e)
+blocks_of (suc count) s m h =
+    let x = Reads-found_block.takes s h.0 h.1 h.2 in
+    let k = blocks_of count h.1 m h.3 in
+    (h.0 ∷ k.0, x.0 ++ k.1, (x.0, k.1, x.1, k.2, refl), x.2 ∙ ap (λ (z : List ℕ). x.0 ++ z) k.3 ∙ sym (append_assoc x.0 k.1 m))
+
 pub needs_after_blocks : (s m : List ℕ) → SomeBlocksBefore s m → NeedsMemory m → NeedsMemoryAfterBlocks s
-needs_after_blocks s m h needs = (h.0, m, h.1, needs)
+needs_after_blocks s m h needs = let k = blocks_of h.0 s m h.1 in (k.0, k.1, m, k.2, k.3, needs)
 
 pub needs_after_marker : (s m : List ℕ) → marker_at s ≡ Done stream_marker m → NeedsMemory m → HeadNeedsMemory s
-needs_after_marker s m e needs = (m, e, (0, m, refl, needs))
+needs_after_marker s m e needs = let x = Reads-marker.takes s stream_marker m e in (x.0, m, x.1, x.2, ([], [], m, refl, refl, needs))
 
 pub needs_after_first : (block : FoundBlock) (s m : List ℕ) → Begun block s m → NeedsMemoryAfterBlocks m → HeadNeedsMemory s
 unfolding Begun
-needs_after_first block s m h needs = (h.0, h.1, (suc needs.0, needs.1, (block, m, h.2, needs.2), needs.3))
+needs_after_first block s m h needs =
+    let x = Reads-marker.takes s stream_marker h.0 h.1 in
+    let y = Reads-found_block.takes h.0 block m h.2 in
+    let joined : h.0 ≡ (y.0 ++ needs.1) ++ needs.2 = y.2 ∙ ap (λ (z : List ℕ). y.0 ++ z) needs.4 ∙ sym (append_assoc y.0 needs.1 needs.2) in
+    (x.0, h.0, x.1, x.2, (block ∷ needs.0, y.0 ++ needs.1, needs.2, (y.0, needs.1, y.1, needs.3, refl), joined, needs.5))
 
 -- ---- a block with its header
 

@@ -1,9 +1,10 @@
 -- A whole stream: its head, and what was counted after it.
 use Rattle.std.specs.Borrow.{MutBor}
-use Rattle.std.proofs.Common.{◌≡◌, ◌⊎◌, ◌+◌, ◌%◌, ◌^◌, ℕ, true, false, List, [], ◌∷◌, ◌++◌, length, inl, inr, refl, sym, ap, arith, subst, ◌∙◌, length-append}
-use Rattle.std.specs.Prelude.{Bool, bytes_eq, IsTrue, IsOkAnd, Option, None, Some, Result, Ok, Err, ◌↔◌, ◌≢◌}
+use Rattle.std.proofs.Common.{◌≡◌, ◌⊎◌, ◌<◌, ◌≤◌, ◌+◌, ◌%◌, ◌^◌, ℕ, true, false, List, [], ◌∷◌, ◌++◌, length, inl, inr, refl, sym, ap, arith, subst, ◌∙◌, append_assoc, length-append}
+use Rattle.std.specs.Prelude.{Bool, bytes_eq, map, IsTrue, IsOkAnd, Option, None, Some, Result, Ok, Err, ◌↔◌, ◌≢◌}
 use Rattle.std.specs.Bool.{Decides}
 use Rattle.std.specs.List.{sum_by}
+use Rattle.std.proofs.lemmas.List.Sums.{sum_by-cons}
 use Rattle.std.proofs.lemmas.Bool.{false≢true}
 use Rattle.std.proofs.lemmas.Slice.Eq.{bytes_eq-Decides}
 use Rattle.claxon.specs.DecodedFrame.{FrameValue}
@@ -27,15 +28,15 @@ use Rattle.claxon.proofs.OutOfMemory.{not_out_of_memory, same_out_of_memory}
 use Rattle.claxon.specs.RunningReader.{running_inner}
 use Rattle.claxon.specs.RunningReaders.{RunningReader}
 use Rattle.claxon_md5.specs.declared.Md5.{Md5}
-use Rattle.claxon_verify.specs.RightStream.{AreInOrder, HasMd5, IsRightStream, bytes_of_frames, frame_duration}
-use Rattle.claxon_verify.specs.Verify.{AreTooMany, CanBeCounted, Counted, Counts, EndsAt, FirstIs, FrameOrFault, FramesAndFaults, HasFramesAndFaults, IsFirst, IsRight, IsTooMany, IsVerified, Md5Is, NothingIsWrong, ReportValue, RightIsComplete, RightIsSound, SameFirst, SameReport, StopsCounting, VerifyIsComplete, VerifyIsSound, VerifyPromises, changed_size, counted_bytes, fault_count_of, frame_count_of, frames_of, report_view, sample_count_of, sum_of}
-use Rattle.claxon_blocks.specs.Md5Verdict.{IsMd5Verdict, Md5IsShown, no_md5}
-use Rattle.claxon_verify.specs.Places.{LastPlace, PlacesAreCounted, PlacesFound, PlacesHere, PlacesOf, WalksPlaces}
-use Rattle.claxon_verify.specs.Walk.{CanBeLeftOut, WalksToEnd, count_so_far, counts_of, first_place, place_count}
-use Rattle.claxon_blocks.specs.Md5Verdict.{HasHashedBytes, Md5IsJudged}
+use Rattle.claxon_verify.specs.Kept.{AreKept, Keeps}
+use Rattle.claxon_verify.specs.Places.{FoundPart, list_of, places_at}
+use Rattle.claxon_verify.specs.RightStream.{AreInOrder, AreNextAfter, DecodedFrames, FitsBitDepth, HasMd5, IsRightStream, bytes_of_frames, frame_duration}
+use Rattle.claxon_verify.specs.Verify.{AreTooMany, CanBeCounted, Counted, Counts, EndsAt, FrameOrFault, FramesAndFaults, HasFramesAndFaults, IsRight, IsTooMany, IsVerified, LastFound, Md5Is, NothingIsWrong, PartsFound, PlacesAreCounted, ReportValue, RightIsComplete, RightIsSound, SamePlaces, SameReport, StopsCounting, VerifyIsComplete, VerifyIsSound, VerifyPromises, all_places, changed_size, counted_bytes, fault_count_of, frame_count_of, frames_of, report_view, sample_count_of, sum_of, unnamed}
+use Rattle.claxon_verify.specs.Walk.{IsCounted, WalksToEnd}
+use Rattle.claxon_blocks.specs.Md5Verdict.{HasHashedBytes, IsMd5Verdict, Md5IsJudged, Md5IsShown, no_md5}
 use Rattle.claxon_blocks.specs.declared.md5_verdict.Md5Verdict.{Md5Verdict}
 use Rattle.claxon_blocks.specs.declared.md5_verdict.Md5Verdict.TheVariants.{Missing, NotComputed, Right, Wrong}
-use Rattle.claxon_verify.specs.declared.report.BlockSizes.{BlockSizes}
+use Rattle.claxon_verify.specs.declared.due.FoundFrame.{FoundFrame}
 use Rattle.claxon_verify.specs.declared.report.Place.{Place}
 use Rattle.claxon_verify.specs.declared.report.Report.{Report}
 use Rattle.claxon_verify.specs.declared.BytesRead.{BytesRead}
@@ -43,9 +44,10 @@ use Rattle.claxon_verify.specs.declared.walk.Walk.{Walk}
 use Rattle.claxon_verify.specs.StreamHead.{FoundHead, HeadNeedsMemory, OutOfMemoryOnlyWhere, found_head_at, found_head_view}
 use Rattle.claxon_verify.specs.declared.report.UnsupportedBlock.{UnsupportedBlock}
 use Rattle.claxon_input.proofs.Promises.{fault_is}
-use Rattle.claxon_verify.proofs.FramesAndFaults.{frames_of_all, not_cut, not_too_many, parts_of_frames, same_answer, same_counts}
+use Rattle.claxon_verify.proofs.FramesAndFaults.{frames_of_all, not_cut, not_too_many, parts_front, same_answer, same_counts}
+use Rattle.claxon_verify.proofs.RightPlaces.{none_is_right, right_has_none}
+use Rattle.claxon_verify.proofs.Scanning.{found_from}
 use Rattle.claxon_verify.proofs.SupportedHeads.{head_found, head_supported}
-use Rattle.claxon_verify.proofs.Walking.{first_weaker}
 
 -- ---- what was counted, as said of the whole stream
 
@@ -53,27 +55,13 @@ use Rattle.claxon_verify.proofs.Walking.{first_weaker}
 restart : (p q n byte : ℕ) → q % 2 ^ 64 ≡ p % 2 ^ 64 → byte ≡ (q + n) % 2 ^ 64 → byte ≡ (p + n) % 2 ^ 64
 restart p q n byte e f = omega arith
 
-module _ (stream : Option StreamFormat) (info : Streaminfo) (p q : ℕ) (at : q % 2 ^ 64 ≡ p % 2 ^ 64) (s : List ℕ) where
-  first_at : {failed : Type 0} (place : Place) → IsFirst failed stream info q s place → IsFirst failed stream info p s place
-  first_at place f = record {
-    front = f.front;
-    before = f.before;
-    left = f.left;
-    joined = f.joined;
-    frames_are = f.frames_are;
-    in_order = f.in_order;
-    byte_is = restart p q (length f.front) place.start_byte at f.byte_is;
-    sample_is = f.sample_is;
-    damage = f.damage;
-  }
-
-  firsts_from : (failed more : Type 0) (w : failed → more) (parts : List FrameOrFault) (is_cut : Bool) (o : Option Place) → FirstIs failed stream info q s parts is_cut o → FirstIs more stream info p s parts is_cut o
-  firsts_from failed more w parts is_cut None h = h
-  firsts_from failed more w parts is_cut (Some place) h = first_weaker stream info p s place w (first_at place h)
-
 ends_weaker : (failed more : Type 0) (stream : Option StreamFormat) (w : failed → more) (is_cut : Bool) (rest : List ℕ) → EndsAt failed stream is_cut rest → EndsAt more stream is_cut rest
 ends_weaker failed more stream w false rest h = h
 ends_weaker failed more stream w true rest h = elim h [ inl n ↦ inl n | inr f ↦ inr (w f) ]
+
+last_from : (is_cut : Bool) (p q n : ℕ) (rest : List ℕ) (found : List FoundPart) → q % 2 ^ 64 ≡ p % 2 ^ 64 → LastFound is_cut (q + n) rest found → LastFound is_cut (p + n) rest found
+last_from false p q n rest found at h = h
+last_from true p q n rest found at h = (h.0, h.1, h.2, restart p q n h.0.start at h.3, h.4, h.5, h.6)
 
 -- the same frames and faults, counted from an equal byte
 counted_from : {failed more : Type 0} {stream : Option StreamFormat} {info : Streaminfo} (w : failed → more) (p q : ℕ) → q % 2 ^ 64 ≡ p % 2 ^ 64 → (s : List ℕ) (counts : Counts) → (h : Counted failed stream info q s counts) → (c : Counted more stream info p s counts) × (c.parts ≡ h.parts)
@@ -81,54 +69,25 @@ counted_from {failed = failed} {more = more} {stream = stream} {info = info} w p
   record {
     parts = h.parts;
     is_cut = h.is_cut;
+    front = h.front;
     rest = h.rest;
+    joined = h.joined;
     parts_are = h.parts_are;
     ends = ends_weaker failed more stream w h.is_cut h.rest h.ends;
+    fit = h.fit;
     frames = h.frames;
     samples = h.samples;
-    first = firsts_from stream info p q at s failed more w h.parts h.is_cut counts.first h.first;
     sizes = h.sizes;
+    found = h.found;
+    last = h.last;
+    found_are = found_from stream info p q s h.parts h.rest h.found at h.found_are;
+    last_is = last_from h.is_cut p q (length h.front) h.rest h.last at h.last_is;
+    end = h.end;
+    end_is = λ e. restart p q (length s) h.end at (h.end_is e);
+    kept = h.kept;
   },
   refl,
 )
-
--- the same places, counted from an equal byte
-place_from : (p q n byte : ℕ) → q % 2 ^ 64 ≡ p % 2 ^ 64 → byte ≡ (q + n) % 2 ^ 64 → byte ≡ (p + n) % 2 ^ 64
-place_from p q n byte at e = restart p q n byte at e
-
-place_at : (p q byte : ℕ) → q % 2 ^ 64 ≡ p % 2 ^ 64 → byte ≡ q % 2 ^ 64 → byte ≡ p % 2 ^ 64
-place_at p q byte at e = e ∙ at
-
-here_from : (p q n : ℕ) (part : FrameOrFault) (found : List Place) → q % 2 ^ 64 ≡ p % 2 ^ 64 → PlacesHere q (q + n) part found → PlacesHere p (p + n) part found
-here_from p q n (Ok frame) found at (inl none) = inl none
-here_from p q n (Ok frame) found at (inr w) = inr (w.0, w.1, place_at p q w.0.start_byte at w.2)
-here_from p q n (Err f) found at w = (w.0, w.1, record { begins = place_at p q w.0.start_byte at w.2.begins; ends = place_from p q n w.0.end_byte at w.2.ends; fault = w.2.fault })
-
-next_from : (p q n : ℕ) → q % 2 ^ 64 ≡ p % 2 ^ 64 → (q + n) % 2 ^ 64 ≡ (p + n) % 2 ^ 64
-next_from p q n at = omega arith
-
-places_from : (stream : Option StreamFormat) (p q : ℕ) (s : List ℕ) (parts : List FrameOrFault) (r : List ℕ) (found : List Place) → q % 2 ^ 64 ≡ p % 2 ^ 64 → PlacesOf stream q s parts r found → PlacesOf stream p s parts r found
-places_from stream p q s [] r found at h = h
-places_from stream p q s (part ∷ parts) r found at h = (h.0, h.1, h.2, h.3, h.4, h.5, here_from p q (length h.0) part h.2 at h.6, places_from stream (p + length h.0) (q + length h.0) h.1 parts r h.3 (next_from p q (length h.0) at) h.7, h.8)
-
-last_from : (is_cut : Bool) (p q n : ℕ) (found : List Place) → q % 2 ^ 64 ≡ p % 2 ^ 64 → LastPlace is_cut (q + n) found → LastPlace is_cut (p + n) found
-last_from false p q n found at h = h
-last_from true p q n found at h = (h.0, h.1, place_from p q n h.0.start_byte at h.2, h.3)
-
-found_from : {failed more : Type 0} (w : failed → more) (stream : Option StreamFormat) (p q : ℕ) (s : List ℕ) (count : ℕ) → q % 2 ^ 64 ≡ p % 2 ^ 64 → PlacesFound failed stream q s count → PlacesFound more stream p s count
-found_from {failed = failed} {more = more} w stream p q s count at h = record {
-  parts = h.parts;
-  is_cut = h.is_cut;
-  front = h.front;
-  rest = h.rest;
-  found = h.found;
-  last = h.last;
-  joined = h.joined;
-  places_are = places_from stream p q s h.parts h.rest h.found at h.places_are;
-  ends = ends_weaker failed more stream w h.is_cut h.rest h.ends;
-  last_is = last_from h.is_cut p q (length h.front) h.last at h.last_is;
-  so_many = h.so_many;
-}
 
 -- ---- the MD5 sum
 
@@ -204,14 +163,27 @@ shown_md5 false info frames (Some hasher) sum hashed shown = absurd cc
 
 -- ---- the verdict
 
+-- those that are counted can be
+fits_of : (parts : List FrameOrFault) → CanBeCounted parts → (0 + length parts < 2 ^ 64) × (0 + sum_by sample_count_of parts < 2 ^ 64)
+fits_of parts can =
+    let l = count_parts parts in
+    let few = can.1 in
+    let small = can.0 in
+    (omega (arith, l, few), omega (arith, small))
+  where
+    count_parts : (parts : List FrameOrFault) → sum_by frame_count_of parts + sum_by fault_count_of parts ≡ length parts
+    count_parts [] = refl
+    count_parts (Ok frame ∷ parts) = let part : FrameOrFault = Ok frame in let k = count_parts parts in omega (arith, k, sum_by-cons frame_count_of part parts, sum_by-cons fault_count_of part parts)
+    count_parts (Err f ∷ parts) = let part : FrameOrFault = Err f in let k = count_parts parts in omega (arith, k, sum_by-cons frame_count_of part parts, sum_by-cons fault_count_of part parts)
+
 right_stream : {failed : Type 0} (computes_md5 : Bool) (s : List ℕ) (report : ReportValue) → IsVerified failed computes_md5 s report → IsTrue report.is_right → IsRightStream computes_md5 s
 right_stream {failed = failed} computes_md5 s report v is_right =
     let answer = v.right.0 is_right in
     let c = v.counted in
     let info : Streaminfo = v.head.info in
     let stream : Option StreamFormat = Some (stream_of info) in
-    let first = subst (λ (o : Option Place). FirstIs failed stream info (length v.front) v.bytes c.parts c.is_cut o) answer.1 c.first in
-    let k = frames_of_all stream c.parts v.bytes c.rest c.parts_are first.1.0 in
+    let right = none_is_right stream info c.end (length v.front) (length v.front + length c.front) v.bytes c.rest c.parts c.found c.last c.is_cut c.found_are c.last_is (fits_of c.parts c.fit) (c.kept.some answer.1) in
+    let k = frames_of_all stream c.parts v.bytes c.rest c.parts_are right.1 in
     let samples : report.info.samples ≡ info.samples = ap (λ (i : Streaminfo). i.samples) v.info in
     let none : v.head.unsupported ≡ None = sym v.unsupported ∙ answer.0 in
     let head = head_supported info s v.bytes (v.head_is ∙ ap (λ (o : Option UnsupportedBlock). Done (record { info = info; unsupported = o }) v.bytes) none) in
@@ -224,28 +196,55 @@ right_stream {failed = failed} computes_md5 s report v is_right =
       code = head.2;
       joined = head.3;
       frames_are = k.0;
-      few = not_cut failed stream c.is_cut c.rest first.0 c.ends;
-      in_order = first.1.1;
+      few = not_cut failed stream c.is_cut c.rest right.0 c.ends;
+      in_order = right.2;
       samples = elim answer.2 [ inl n ↦ inl (sym samples ∙ n) | inr n ↦ inr (sym samples ∙ n ∙ c.samples ∙ k.1) ];
       md5_is = right_md5 computes_md5 info (frames_of c.parts) report.md5 v.md5_is answer.3;
     }
 
-module _ (computes_md5 : Bool) (s : List ℕ) (r : IsRightStream computes_md5 s) where
+-- what is found of frames in order
+right_parts : (stream : Option StreamFormat) (info : Streaminfo) (frames before : List FrameValue) (start : ℕ) (s m : List ℕ) → DecodedFrames stream s frames m → AreNextAfter info before frames
+    → (parts : List FrameOrFault) × (found : List FoundPart) × FramesAndFaults stream s parts m × PartsFound stream info start s parts m found × (sum_by fault_count_of parts ≡ 0) × (sum_by frame_count_of parts ≡ length frames) × (sum_by sample_count_of parts ≡ sum_by frame_duration frames) × (frames_of parts ≡ frames)
+right_parts stream info [] before start s m f right = ([], [], f, (f, refl), refl, refl, refl, refl)
+right_parts stream info (frame ∷ frames) before start s m f right =
+    let part : FrameOrFault = Ok frame in
+    let k = right_parts stream info frames (before ++ frame ∷ []) (start + length f.0) f.1 m f.4 right.1 in
+    let found : FoundFrame = record { header = frame.info; duration = frame_duration frame; fits = true } in
+    let here : FoundPart = record { start = start % 2 ^ 64; what = Ok found } in
+    let fits : IsTrue true ↔ FitsBitDepth info frame = (λ t. right.0.3, λ fit. refl) in (
+      part ∷ k.0,
+      here ∷ k.1,
+      (f.0, f.1, f.2, f.3, k.2),
+      (f.0, f.1, here, k.1, f.2, f.3, refl, record { header = refl; duration = refl; fits = fits }, k.3, refl),
+      omega (arith, sum_by-cons fault_count_of part k.0, k.4),
+      omega (arith, sum_by-cons frame_count_of part k.0, k.5),
+      sum_by-cons sample_count_of part k.0 ∙ ap (λ (z : ℕ). frame_duration frame + z) k.6 ∙ sym (sum_by-cons frame_duration frame frames),
+      ap (λ (z : List FrameValue). frame ∷ z) k.7,
+    )
+
+module _ (computes_md5 : Bool) (s : List ℕ) (r : IsRightStream computes_md5 s) (few : sum_by frame_duration r.frames < 2 ^ 64) (short : length r.frames + 1 < 2 ^ 64) where
   right_report : ReportValue
   right_report = record {
     info = r.head.info;
     unsupported = None;
-    counts = record { frames = length r.frames; samples = sum_by frame_duration r.frames; first = None; sizes = changed_size r.frames };
+    counts = record { frames = length r.frames; samples = sum_by frame_duration r.frames; first = None; more = []; left_out = 0; sizes = changed_size r.frames };
     md5 = (verdict_of computes_md5 r.head.info r.frames r.md5_is).0;
     sum = sum_of computes_md5 r.head.info r.frames;
     is_right = true;
   }
 
-  right_verified : (v : IsVerified ⊥ computes_md5 s right_report) × (sum_by sample_count_of v.counted.parts ≡ sum_by frame_duration r.frames) × (sum_by frame_count_of v.counted.parts + sum_by fault_count_of v.counted.parts ≡ length r.frames)
+  right_verified : (v : IsVerified ⊥ computes_md5 s right_report) × CanBeCounted v.counted.parts
   unfolding right_report
   right_verified =
-      let k = parts_of_frames (Some (stream_of r.head.info)) r.frames r.bytes r.rest r.frames_are in
-      let w = verdict_of computes_md5 r.head.info r.frames r.md5_is in (
+      let stream : Option StreamFormat = Some (stream_of r.head.info) in
+      let start : ℕ = length r.front in
+      let k = right_parts stream r.head.info r.frames [] start r.bytes r.rest r.frames_are r.in_order in
+      let p = parts_front stream k.0 r.bytes r.rest k.2 in
+      let w = verdict_of computes_md5 r.head.info r.frames r.md5_is in
+      let can : CanBeCounted k.0 = (let same = k.6 in omega (arith, same, few), let faults = k.4 in let frames = k.5 in omega (arith, faults, frames, short)) in
+      let end : ℕ = (start + length r.bytes) % 2 ^ 64 in
+      let none = right_has_none stream r.head.info end start r.bytes r.rest k.0 k.1 k.3 (fits_of k.0 can) k.4 (subst (λ (fs : List FrameValue). AreInOrder r.head.info fs) (sym k.7) r.in_order)
+      (samples_are r.head.info.samples (sum_by frame_duration r.frames) (sum_by sample_count_of k.0) k.6 r.samples) in (
         record {
           head = record { info = r.head.info; unsupported = None };
           front = r.front;
@@ -257,21 +256,33 @@ module _ (computes_md5 : Bool) (s : List ℕ) (r : IsRightStream computes_md5 s)
           counted = record {
             parts = k.0;
             is_cut = false;
+            front = p.0;
             rest = r.rest;
-            parts_are = k.1;
+            joined = p.1;
+            parts_are = k.2;
             ends = r.few;
-            frames = sym k.3;
-            samples = sym k.4;
-            first = (refl, (k.2, subst (λ (fs : List FrameValue). AreInOrder r.head.info fs) (sym k.5) r.in_order));
-            sizes = ap changed_size (sym k.5);
+            fit = can;
+            frames = sym k.5;
+            samples = sym k.6;
+            sizes = ap changed_size (sym k.7);
+            found = k.1;
+            last = [];
+            found_are = k.3;
+            last_is = refl;
+            end = end;
+            end_is = λ e. refl;
+            kept = record { others = []; are = none; left_out_is = refl; some = λ e. none };
           };
-          md5_is = subst (λ (fs : List FrameValue). Md5Is computes_md5 r.head.info fs w.0) (sym k.5) w.1;
-          sum_is = ap (sum_of computes_md5 r.head.info) (sym k.5);
+          md5_is = subst (λ (fs : List FrameValue). Md5Is computes_md5 r.head.info fs w.0) (sym k.7) w.1;
+          sum_is = ap (sum_of computes_md5 r.head.info) (sym k.7);
           right = (λ t. (refl, refl, r.samples, w.2), λ t. refl);
         },
-        k.4,
-        omega (arith, k.2, k.3),
+        can,
       )
+    where
+      samples_are : (samples all total : ℕ) → total ≡ all → (samples ≡ 0) ⊎ (samples ≡ all) → (samples ≡ 0) ⊎ (samples ≡ total)
+      samples_are samples all total e (inl n) = inl n
+      samples_are samples all total e (inr n) = inr (n ∙ sym e)
 
   is_right_report : IsTrue right_report.is_right
   unfolding right_report
@@ -283,25 +294,42 @@ right_sound computes_md5 a (Err e) b h = tt
 
 pub right_complete : {A : Type 0} (computes_md5 : Bool) (a : State ℕ) (result : Result (Report A) Error) (b : State ℕ) → VerifyIsComplete computes_md5 a result b → RightIsComplete computes_md5 a result b
 right_complete {A = A} computes_md5 a result b h = λ known r few short.
-    let report = right_report computes_md5 a.remaining r in
-    let v = right_verified computes_md5 a.remaining r in
-    elim (h report known v.0 (omega (arith, v.1, few), omega (arith, v.2, short))) [ inl p ↦ inl (is_right report result p (is_right_report computes_md5 a.remaining r)) | inr x ↦ inr x ]
+    let report = right_report computes_md5 a.remaining r few short in
+    let v = right_verified computes_md5 a.remaining r few short in
+    elim (h report known v.0 v.1) [ inl p ↦ inl (is_right report result p (is_right_report computes_md5 a.remaining r few short)) | inr x ↦ inr x ]
   where
     is_right : (other : ReportValue) (q : Result (Report A) Error) → IsOkAnd q (λ answer. SameReport (report_view answer) other) → IsTrue other.is_right → IsOkAnd q (λ answer. IsTrue answer.is_right)
     is_right other (Ok answer) p e = p.is_right ∙ e
     is_right other (Err e) p t = p
 
--- both have no first place, or neither
-same_none : (a b : Option Place) → SameFirst a b → (a ≡ None) ↔ (b ≡ None)
-same_none None None h = (λ e. refl, λ e. refl)
-same_none None (Some b) h = absurd h
-same_none (Some a) None h = absurd h
-same_none (Some a) (Some b) h = (λ e. absurd cc, λ e. absurd cc)
+-- ---- the places
+
+no_first_of : (first : Option Place) (more others : List Place) → list_of first ++ (more ++ others) ≡ [] → first ≡ None
+no_first_of None more others e = refl
+no_first_of (Some place) more others e = absurd cc
+
+none_unnamed : (places : List Place) → map unnamed places ≡ [] → places ≡ []
+none_unnamed [] e = refl
+none_unnamed (place ∷ places) e = absurd cc
+
+module _ {failed more : Type 0} {stream other : Option StreamFormat} {info given : Streaminfo} {start at : ℕ} {s t : List ℕ} (a b : Counts) (x : Counted failed stream info start s a) (y : Counted more other given at t b) (same : map unnamed (all_places x) ≡ map unnamed (all_places y)) where
+  none_either : a.first ≡ None → b.first ≡ None
+  none_either e =
+      let none : map unnamed (all_places y) ≡ [] = sym same ∙ ap (map unnamed) (x.kept.some e) in
+      no_first_of b.first b.more y.kept.others (sym y.kept.are ∙ none_unnamed (all_places y) none)
+
+  pub same_places : SamePlaces a b
+  same_places = record {
+    left_of_a = x.kept.others;
+    left_of_b = y.kept.others;
+    same = ap (map unnamed) (sym x.kept.are) ∙ same ∙ ap (map unnamed) y.kept.are;
+    left_out_of_a = x.kept.left_out_is;
+    left_out_of_b = y.kept.left_out_is;
+  }
 
 -- reports of the same are right or not alike
-same_right : (a b : ReportValue) → a.info ≡ b.info → a.unsupported ≡ b.unsupported → a.counts.samples ≡ b.counts.samples → SameFirst a.counts.first b.counts.first → a.md5 ≡ b.md5 → IsRight a → IsRight b → a.is_right ≡ b.is_right
-same_right a b info unsupported samples first md5_is x y =
-    let none = same_none a.counts.first b.counts.first first in
+same_right : (a b : ReportValue) → a.info ≡ b.info → a.unsupported ≡ b.unsupported → a.counts.samples ≡ b.counts.samples → ((a.counts.first ≡ None) ↔ (b.counts.first ≡ None)) → a.md5 ≡ b.md5 → IsRight a → IsRight b → a.is_right ≡ b.is_right
+same_right a b info unsupported samples none md5_is x y =
     let z : IsTrue a.is_right ↔ ((b.unsupported ≡ None) × (b.counts.first ≡ None) × ((a.info.samples ≡ 0) ⊎ (a.info.samples ≡ a.counts.samples)) × (a.md5 ≢ Wrong)) =
     (λ t. let k = x.0 t in (sym unsupported ∙ k.0, none.0 k.1, k.2, k.3), λ k. x.1 (unsupported ∙ k.0, none.1 k.1, k.2, k.3)) in
     let of_info = subst (λ (i : Streaminfo). IsTrue a.is_right ↔ ((b.unsupported ≡ None) × (b.counts.first ≡ None) × ((i.samples ≡ 0) ⊎ (i.samples ≡ a.counts.samples)) × (a.md5 ≢ Wrong))) info z in
@@ -423,15 +451,6 @@ module _ {a m : State ℕ} (b : State ℕ) {head : FoundHead} {stream : Option S
         what = subst (λ (z : Option StreamFormat). P z parts left) h.stream_is q;
       }
 
-  -- the places of the report are those that were found
-  pub counted_places : {A B : Type 0} (walk : Walk A) (report : Report B) → WalksPlaces stream start m b walk → (CanBeLeftOut walk.places.ended → place_count report.found.places ≡ count_so_far walk.places) → PlacesAreCounted a (Ok report) b
-  counted_places walk report walks counts known =
-      let s = h.is known in
-      let w = walks (h.known known) in
-      let found = found_from failed_since stream (length s.0) start m.remaining (count_so_far walk.places) s.3 w.0 in
-      let same = subst (PlacesFound (ReadFailedIn a b) stream (length s.0) m.remaining) (sym (counts w.1)) found in
-      (head, s.0, m.remaining, s.1, s.2, subst (λ (z : Option StreamFormat). PlacesFound (ReadFailedIn a b) z (length s.0) m.remaining (place_count report.found.places)) h.stream_is same)
-
   module _ (computes_md5 : Bool) where
     -- the MD5 sum was judged and shown
     abbrev SumIs : Streaminfo → List FrameOrFault → Md5Verdict → Option (List ℕ) → Type 0
@@ -442,24 +461,20 @@ module _ {a m : State ℕ} (b : State ℕ) {head : FoundHead} {stream : Option S
     Judged failed z i n counts v sum = (c : Counted failed z i n m.remaining counts) × SumIs i c.parts v sum
 
     module _ {A B : Type 0} (info : StreamInfo) (walk : Walk A) (report : Report B) (of_info : head.info ≡ info_view info) (unsupported_is : report.unsupported ≡ head.unsupported) (walks : WalksToEnd computes_md5 stream (info_view info) start m b walk) (info_is : report.info ≡ info) (frames_are : report.found.frames ≡ walk.frames)
-        (samples_are : report.found.samples ≡ walk.samples) (first_is : report.found.places.first ≡ first_place walk.places) (sizes_are : report.found.notes.changed_block_size ≡ walk.sizes.changed) (md5_is : Md5IsJudged (info_view info) walk.md5 report.md5) (md5_shown : Md5IsShown walk.md5 report.computed_md5)
+        (samples_are : report.found.samples ≡ walk.samples) (kept : (all : List Place) → Keeps all walk.places → AreKept (places_at walk.end (or_zero info.samples) (record { scan = walk.scan; places = all })) report.found.places.first report.found.places.more.items report.found.places.left_out) (sizes_are : report.found.notes.changed_block_size ≡ walk.sizes.changed) (md5_is : Md5IsJudged (info_view info) walk.md5 report.md5) (md5_shown : Md5IsShown walk.md5 report.computed_md5)
         (unsupported : Option UnsupportedBlock) (given : report.unsupported ≡ unsupported) (right : IsTrue report.is_right ↔ ((unsupported ≡ None) × NothingIsWrong report.found (or_zero info.samples) report.md5)) where
-      same_view : counts_of walk ≡ (report_view report).counts
-      same_view =
-          let f = subst (λ (n : ℕ). counts_of walk ≡ record { frames = n; samples = walk.samples; first = first_place walk.places; sizes = walk.sizes.changed }) (sym frames_are) refl in
-          let s = subst (λ (n : ℕ). counts_of walk ≡ record { frames = report.found.frames; samples = n; first = first_place walk.places; sizes = walk.sizes.changed }) (sym samples_are) f in
-          let p = subst (λ (o : Option Place). counts_of walk ≡ record { frames = report.found.frames; samples = report.found.samples; first = o; sizes = walk.sizes.changed }) (sym first_is) s in
-          subst (λ (o : Option BlockSizes). counts_of walk ≡ record { frames = report.found.frames; samples = report.found.samples; first = report.found.places.first; sizes = o }) (sym sizes_are) p
+      is_counted : IsCounted walk (or_zero info.samples) (report_view report).counts
+      is_counted = record { frames_are = frames_are; samples_are = samples_are; kept = kept; sizes_are = sizes_are }
 
       judged : (known : RemainingIsKnown a) → Judged (ReadFailedIn a b) stream head.info (length (h.is known).0) (report_view report).counts report.md5 report.computed_md5
       judged known =
           let s = h.is known in
           let n : ℕ = length s.0 in
-          let w = walks (h.known known) in
-          let k = counted_from failed_since n start s.3 m.remaining (counts_of walk) w.0 in
+          let w = walks (h.known known) (report_view report).counts is_counted in
+          let k = counted_from failed_since n start s.3 m.remaining (report_view report).counts w.0 in
           let sum : SumIs (info_view info) w.0.parts report.md5 report.computed_md5 = (judged_md5 computes_md5 (info_view info) (frames_of w.0.parts) walk.md5 report.md5 w.1 md5_is, shown_md5 computes_md5 (info_view info) (frames_of w.0.parts) walk.md5 report.computed_md5 w.1 md5_shown) in
-          let j : Judged (ReadFailedIn a b) stream (info_view info) n (counts_of walk) report.md5 report.computed_md5 = (k.0, subst (λ (parts : List FrameOrFault). SumIs (info_view info) parts report.md5 report.computed_md5) (sym k.1) sum) in
-          subst (λ (i : Streaminfo). Judged (ReadFailedIn a b) stream i n (report_view report).counts report.md5 report.computed_md5) (sym of_info) (subst (λ (c : Counts). Judged (ReadFailedIn a b) stream (info_view info) n c report.md5 report.computed_md5) same_view j)
+          let j : Judged (ReadFailedIn a b) stream (info_view info) n (report_view report).counts report.md5 report.computed_md5 = (k.0, subst (λ (parts : List FrameOrFault). SumIs (info_view info) parts report.md5 report.computed_md5) (sym k.1) sum) in
+          subst (λ (i : Streaminfo). Judged (ReadFailedIn a b) stream i n (report_view report).counts report.md5 report.computed_md5) (sym of_info) j
 
       is_right : IsRight (report_view report)
       is_right =
@@ -506,14 +521,29 @@ module _ {a m : State ℕ} (b : State ℕ) {head : FoundHead} {stream : Option S
                   unsupported = same_unsupported;
                   frames = same.0;
                   samples = same.1;
-                  first = same.3;
+                  places = same_places (report_view report).counts other.counts j.0 c.0 same.3;
                   sizes = j.0.sizes ∙ ap (λ (parts : List FrameOrFault). changed_size (frames_of parts)) same.2 ∙ sym c.0.sizes;
                   md5_is = verdict;
                   sum_is = of_head.1 ∙ sym v.sum_is;
-                  is_right = same_right (report_view report) other same_info same_unsupported same.1 same.3 verdict is_right v.right;
+                  is_right = same_right (report_view report) other same_info same_unsupported same.1 (none_either (report_view report).counts other.counts j.0 c.0 same.3, none_either other.counts (report_view report).counts c.0 j.0 (sym same.3)) verdict is_right v.right;
                 }
                 )
           ]
+
+      -- the places of the report are those that were found
+      pub counted_places : (more : ℕ) → length report.found.places.more.items ≤ more → PlacesAreCounted more computes_md5 a (Ok report) b
+      counted_places more few = (
+        few,
+        λ known.
+            let v = verified known in
+            let k = v.counted.kept in
+            (v, counts_all report.found.places.first report.found.places.more.items k.others _ report.found.places.left_out k.are k.left_out_is),
+      )
+        where
+          counts_all : (first : Option Place) (more others all : List Place) (left : ℕ) → all ≡ list_of first ++ (more ++ others) → left ≡ length others % 2 ^ 64 → (length (list_of first ++ more) + left) % 2 ^ 64 ≡ length all % 2 ^ 64
+          counts_all first more others all left e is =
+              let l : length all ≡ length (list_of first ++ more) + length others = ap length (e ∙ sym (append_assoc (list_of first) more others)) ∙ length-append (list_of first ++ more) others in
+              omega (arith, l, is)
 
       -- all was counted
       pub all_counted : VerifyPromises computes_md5 a (Ok report) b
@@ -579,6 +609,10 @@ module _ {R : Type 0} (source : R → Source ℕ) (input : MutBor R) (x y : Runn
         memory = h.memory;
       })
 
-  pub places_through : {A : Type 0} (result : Result (Report A) Error) → PlacesAreCounted (counted_bytes (lent source) x) result (counted_bytes (lent source) y) → PlacesAreCounted (bytes_in source input.now) result (bytes_in source (running_inner y).now)
+  pub places_through : {A : Type 0} (more : ℕ) (computes_md5 : Bool) (result : Result (Report A) Error) → PlacesAreCounted more computes_md5 (counted_bytes (lent source) x) result (counted_bytes (lent source) y) → PlacesAreCounted more computes_md5 (bytes_in source input.now) result (bytes_in source (running_inner y).now)
   unfolding bytes_in
-  places_through result h = subst (λ (z : MutBor R). PlacesAreCounted (bytes_in source z.now) result (bytes_in source (running_inner y).now)) at h
+  places_through more computes_md5 result h = subst (λ (z : MutBor R). PlacesAreCounted more computes_md5 (bytes_in source z.now) result (bytes_in source (running_inner y).now)) at h
+
+-- as many are kept as are wanted
+pub few_kept : {kept all wanted given : ℕ} → given ≡ wanted → kept ≤ wanted → (kept ≤ given → all ≤ given) → all ≤ wanted
+few_kept {kept = kept} {all = all} {wanted = wanted} {given = given} same few more = subst (λ (n : ℕ). all ≤ n) same (more (subst (λ (n : ℕ). kept ≤ n) (sym same) few))

@@ -1,5 +1,5 @@
 -- Frames and faults that are found, one after another.
-use Rattle.std.proofs.Common.{◌≡◌, ◌⊎◌, ◌<◌, ◌≤◌, ◌+◌, ◌%◌, ◌^◌, ℕ, true, false, List, [], ◌∷◌, ◌++◌, length, inl, inr, refl, sym, ap, arith, subst, ◌∙◌, length-append, zero-add, append_assoc, cond}
+use Rattle.std.proofs.Common.{◌≡◌, ◌⊎◌, ◌<◌, ◌≤◌, ◌+◌, ◌%◌, ◌^◌, ℕ, true, false, List, [], ◌∷◌, ◌++◌, length, inl, inr, refl, sym, ap, arith, subst, ◌∙◌, length-append, zero-add}
 use Rattle.std.specs.Prelude.{Bool, IsTrue, Option, None, Some, Ok, Err, Result, ◌↔◌}
 use Rattle.std.specs.List.{sum_by}
 use Rattle.std.proofs.lemmas.Grind.{flat_map-append}
@@ -15,8 +15,8 @@ use Rattle.claxon.specs.Errors.TheVariants.{FormatError, IoError, OutOfMemory, U
 use Rattle.claxon.specs.Fault.{Fault}
 use Rattle.claxon.specs.Frame.{FrameBytesFault, StreamFormat}
 use Rattle.claxon.specs.FrameReader.{FrameAnswer, ReadsFrame, block_view}
-use Rattle.claxon.specs.Gives.{Consumes, IsRest, ReadFailedIn}
-use Rattle.claxon.specs.Prefix.{BeginsWith}
+use Rattle.claxon.specs.read.Frame.{frame_bytes_at}
+use Rattle.claxon.specs.Gives.{Consumes, GivesOrEofOrOutOfMemory, IsRest, ReachedEof, ReadFailedIn}
 use Rattle.claxon.specs.Promises.{Consumed}
 use Rattle.claxon.specs.Source.{IsKnown, Source}
 use Rattle.claxon.specs.State.{State, bytes_in, values_at_eof, remaining_as, RemainingIsKnown, final_values}
@@ -27,28 +27,26 @@ use Rattle.claxon.proofs.Loans.{reads_loans}
 use Rattle.claxon_md5.specs.WholeBytes.{whole_bytes_of_samples}
 use Rattle.claxon_md5.specs.declared.Md5.{Md5}
 use Rattle.claxon_blocks.specs.Frames.{HasHeader, Is32BitFault}
-use Rattle.claxon_verify.specs.RightStream.{AreInOrder, IsNext, IsNextAfter, bytes_of_frames, frame_duration, number_after, samples_of_frames, strategy_after}
-use Rattle.claxon_verify.specs.Verify.{FirstIs, FrameOrFault, FrameOrFaultBytes, FramesAndFaults, IsDamageAt, IsFaultAt, IsFirst, IsJudged, IsNotNext, IsTooMany, StopsCounting, counted_bytes, fault_count_of, frame_count_of, frames_of, position_of, sample_count_of}
+use Rattle.claxon_verify.specs.RightStream.{bytes_of_frames, frame_duration, samples_of_frames}
+use Rattle.claxon_verify.specs.Kept.{AreKept, Keeps}
+use Rattle.claxon_verify.specs.Places.{FoundPart, Scans, begun_scan, damaged, list_of, places_at, scan_frame, scan_more, scan_parts}
+use Rattle.claxon_verify.specs.Verify.{CanBeCounted, FrameOrFault, FrameOrFaultBytes, FramesAndFaults, IsTooMany, PartsFound, StopsCounting, counted_bytes, fault_count_of, frame_count_of, frames_of, position_of, sample_count_of}
 use Rattle.claxon_blocks.specs.Frames.{IsNotWhole}
-use Rattle.claxon_verify.specs.Walk.{AddsFault, AddsFrame, CanBeLeftOut, CountsDamage, KeepsCount, count_so_far, AreSizesOf, BeginAlike, PlaceBegins, BeginsWalk, EndsWalk, ExceedsCount, FirstBecomes, GoesOn, KeepsFirstPlace, WalksToEnd, first_place}
+use Rattle.claxon_verify.specs.Walk.{AddsFault, AddsFrame, AreSizesOf, BeginsWalk, EndsWalk, ExceedsCount, WalksToEnd}
 use Rattle.claxon_blocks.specs.HashBlock.{HashesToo}
 use Rattle.claxon_blocks.specs.Md5Verdict.{HasHashedBytes}
 use Rattle.claxon_blocks.specs.declared.frames.FrameError.{FrameError}
-use Rattle.claxon_verify.specs.declared.report.Damage.{Damage}
-use Rattle.claxon_verify.specs.declared.report.Damage.TheVariants.{BitDepth, BlockingStrategy, Channels, Fault as FaultDamage, Missing, Repeated, SampleRate, WideSample}
+use Rattle.claxon_verify.specs.declared.places.KeptPlaces.{KeptPlaces}
+use Rattle.claxon_verify.specs.declared.report.Damage.TheVariants.{Fault as FaultDamage}
 use Rattle.claxon_verify.specs.declared.report.Place.{Place}
+use Rattle.claxon_verify.specs.declared.scan.Scan.{Scan}
 use Rattle.claxon_verify.specs.declared.BytesRead.{BytesRead}
-use Rattle.claxon_verify.specs.declared.order.Order.{Order}
 use Rattle.claxon_verify.specs.declared.sizes.SizesSoFar.{SizesSoFar}
 use Rattle.claxon_verify.specs.declared.walk.Walk.{Walk}
 use Rattle.claxon_blocks.proofs.BlockReads.{BlockIsRead, IfConsumed, block_read}
 use Rattle.claxon_verify.proofs.BlockSizes.{changed_of}
-use Rattle.claxon_verify.proofs.FramesAndFaults.{frames_of_all, parts_front, parts_push}
-use Rattle.claxon_verify.specs.declared.places.PlacesSoFar.{PlacesSoFar}
-use Rattle.std.specs.Option.{is_some}
-use Rattle.claxon_verify.specs.Places.{AreSoMany, IsFaultWith, WalksPlaces}
-use Rattle.claxon_verify.proofs.PlaceCounts.{FoundSoFar, none_found, so_many_with, with_place, without_place}
-use Rattle.claxon_verify.proofs.FrameOrder.{IsOrderAfter, in_order_push, order_after}
+use Rattle.claxon_verify.proofs.FramesAndFaults.{parts_front, parts_push}
+use Rattle.claxon_verify.proofs.Scanning.{found_push, scan_push}
 
 -- ---- the position
 
@@ -102,59 +100,6 @@ frames_of-append [] others = refl
 frames_of-append (Ok frame ∷ parts) others = ap (λ (fs : List FrameValue). frame ∷ fs) (frames_of-append parts others)
 frames_of-append (Err f ∷ parts) others = frames_of-append parts others
 
--- ---- the first place
-
-pub alike : {failed : Type 0} (stream : Option StreamFormat) (info : Streaminfo) (start : ℕ) (s : List ℕ) (p q : Place) → BeginAlike q p → IsFirst failed stream info start s p → IsFirst failed stream info start s q
-alike {failed = failed} stream info start s p q same f = record {
-  front = f.front;
-  before = f.before;
-  left = f.left;
-  joined = f.joined;
-  frames_are = f.frames_are;
-  in_order = f.in_order;
-  byte_is = same.byte ∙ f.byte_is;
-  sample_is = same.sample ∙ f.sample_is;
-  damage = subst (IsDamageAt failed stream info f.before f.left) (sym same.damage) f.damage;
-}
-
-weaker_fault : {failed more : Type 0} (stream : Option StreamFormat) (m : List ℕ) (e : Error) → (failed → more) → IsFaultAt failed stream m e → IsFaultAt more stream m e
-weaker_fault stream m e w (inl h) = inl h
-weaker_fault stream m e w (inr h) = inr (h.0, elim h.1 [ inl n ↦ inl n | inr f ↦ inr (w f) ])
-
-weaker_damage : {failed more : Type 0} (stream : Option StreamFormat) (info : Streaminfo) (before : List FrameValue) (m : List ℕ) (d : Damage) → (failed → more) → IsDamageAt failed stream info before m d → IsDamageAt more stream info before m d
-weaker_damage stream info before m (FaultDamage e) w h = (weaker_fault stream m e.error w h.0, h.1)
-weaker_damage stream info before m (Channels n) w h = h
-weaker_damage stream info before m (BitDepth n) w h = h
-weaker_damage stream info before m (SampleRate n) w h = h
-weaker_damage stream info before m BlockingStrategy w h = h
-weaker_damage stream info before m (Missing gap) w h = h
-weaker_damage stream info before m (Repeated gap) w h = h
-weaker_damage stream info before m WideSample w h = h
-
-pub first_weaker : {failed more : Type 0} (stream : Option StreamFormat) (info : Streaminfo) (start : ℕ) (s : List ℕ) (p : Place) → (failed → more) → IsFirst failed stream info start s p → IsFirst more stream info start s p
-first_weaker stream info start s p w f = record {
-  front = f.front;
-  before = f.before;
-  left = f.left;
-  joined = f.joined;
-  frames_are = f.frames_are;
-  in_order = f.in_order;
-  byte_is = f.byte_is;
-  sample_is = f.sample_is;
-  damage = weaker_damage stream info f.before f.left p.damage w f.damage;
-}
-
--- a frame that isn't the next one
-frame_damage : (stream : Option StreamFormat) (info : Streaminfo) (before : List FrameValue) (m : List ℕ) (frame : FrameValue) (d : Damage) → BeginsWith (FrameWithHeader stream frame) m → IsNotNext info (strategy_after before) (number_after before) frame d → IsDamageAt ⊥ stream info before m d
-frame_damage stream info before m frame (FaultDamage e) begins h = absurd h
-frame_damage stream info before m frame (Channels n) begins h = (frame, begins, h)
-frame_damage stream info before m frame (BitDepth n) begins h = (frame, begins, h)
-frame_damage stream info before m frame (SampleRate n) begins h = (frame, begins, h)
-frame_damage stream info before m frame BlockingStrategy begins h = (frame, begins, h)
-frame_damage stream info before m frame (Missing gap) begins h = (frame, begins, h)
-frame_damage stream info before m frame (Repeated gap) begins h = (frame, begins, h)
-frame_damage stream info before m frame WideSample begins h = (frame, begins, h)
-
 -- ---- the walk
 
 -- of an equal answer
@@ -164,11 +109,6 @@ read_as {stream = stream} {r = r} {a = a} {b = b} e h = subst (λ (z : FrameAnsw
 pub frame_as : {B : Type 0} (stream : Option StreamFormat) {r : Result (Option (DecodedFrame B)) FrameError} {frame : DecodedFrame B} (a b : State ℕ) → r ≡ Ok (Some frame) → HasHeader stream r a b → Consumed a b (FrameWithHeader stream (record { info = frame.info; block = block_view frame.block }))
 frame_as {B = B} stream a b e h = subst (λ (z : Result (Option (DecodedFrame B)) FrameError). HasHeader stream z a b) e h
 
--- So far nothing is wrong, or this place is the first.
-pub FirstSoFar : Option StreamFormat → Streaminfo → ℕ → List ℕ → List FrameOrFault → Order → ℕ → ℕ → Option Place → Type 0
-FirstSoFar stream info start s parts order sample samples None = (sum_by fault_count_of parts ≡ 0) × AreInOrder info (frames_of parts) × IsOrderAfter (frames_of parts) order × (sample ≡ samples)
-FirstSoFar stream info start s parts order sample samples (Some place) = IsFirst ⊥ stream info start s place
-
 -- So far just frames and faults were consumed: this many, and these were counted.
 pub record SoFar {A : Type 0} (computes_md5 : Bool) (stream : Option StreamFormat) (info : Streaminfo) (start : ℕ) (s m : List ℕ) (count : ℕ) (walk : Walk A) : Type 0 where
   pub parts : List FrameOrFault
@@ -176,10 +116,14 @@ pub record SoFar {A : Type 0} (computes_md5 : Bool) (stream : Option StreamForma
   pub count_is : sum_by frame_count_of parts + sum_by fault_count_of parts ≡ count
   pub frames : walk.frames ≡ sum_by frame_count_of parts
   pub samples : walk.samples ≡ sum_by sample_count_of parts
-  pub first : FirstSoFar stream info start s parts walk.order walk.sample walk.samples (first_place walk.places)
+  pub samples_fit : walk.samples < 2 ^ 64
   pub sizes : AreSizesOf (frames_of parts) walk.sizes
   pub hashed : HasHashedBytes computes_md5 (bytes_of_frames info.bit_depth (frames_of parts)) walk.md5
-  pub found : FoundSoFar stream start s m parts count walk.places
+  pub found : List FoundPart
+  pub found_are : PartsFound stream info start s parts m found
+  pub places : List Place
+  pub scan : scan_parts info (record { scan = begun_scan; places = [] }) found ≡ record { scan = walk.scan; places = places }
+  pub keeps : Keeps places walk.places
 
 -- So far no read of the source failed.
 pub record WalkedSoFar {A : Type 0} (computes_md5 : Bool) (stream : Option StreamFormat) (info : Streaminfo) (start : ℕ) (a b : State ℕ) (count : ℕ) (walk : Walk A) : Type 0 where
@@ -190,9 +134,9 @@ pub record WalkedSoFar {A : Type 0} (computes_md5 : Bool) (stream : Option Strea
   pub values : RemainingIsKnown a → final_values b ≡ final_values a
   pub is : RemainingIsKnown a → SoFar computes_md5 stream info start a.remaining b.remaining count walk
 
-pub none_so_far : {A : Type 0} (computes_md5 : Bool) (stream : Option StreamFormat) (info : Streaminfo) (start : ℕ) (a : State ℕ) (walk : Walk A) → BeginsWalk computes_md5 walk → WalkedSoFar computes_md5 stream info start a a 0 walk
-unfolding FirstSoFar whole_bytes_of_samples
-none_so_far computes_md5 stream info start a walk begins = record {
+pub none_so_far : {A : Type 0} (computes_md5 : Bool) (stream : Option StreamFormat) (info : Streaminfo) (start more : ℕ) (a : State ℕ) (walk : Walk A) → BeginsWalk computes_md5 more walk → WalkedSoFar computes_md5 stream info start a a 0 walk
+unfolding whole_bytes_of_samples
+none_so_far computes_md5 stream info start more a walk begins = record {
   errors = refl;
   empty_reads = refl;
   loans = refl;
@@ -204,10 +148,14 @@ none_so_far computes_md5 stream info start a walk begins = record {
     count_is = refl;
     frames = begins.frames_are;
     samples = begins.samples_are;
-    first = subst (FirstSoFar stream info start a.remaining [] walk.order walk.sample walk.samples) (sym begins.no_place) (refl, tt, record { strategy = begins.no_strategy; number = begins.number_is }, begins.sample_is ∙ sym begins.samples_are);
+    samples_fit = let none = begins.samples_are in omega (arith, none);
     sizes = begins.no_size;
     hashed = begins.hasher;
-    found = none_found stream start a.remaining walk.places begins.no_count begins.none_goes_on;
+    found = [];
+    found_are = (refl, refl);
+    places = [];
+    scan = ap (λ (z : Scan). record { scan = z; places = [] }) (sym begins.scan_is);
+    keeps = begins.keeps;
   };
 }
 
@@ -217,12 +165,6 @@ kept_err (IoError cause) io memory h = absurd cc
 kept_err (FormatError text) io memory h = h
 kept_err (Unsupported text) io memory h = h
 kept_err OutOfMemory io memory h = absurd cc
-
--- so few are left out where the last place isn't yet among them
-left_out_of : {A : Type 0} (places : PlacesSoFar A) → is_some places.last ≡ true → (count : ℕ) → count_so_far places ≤ count → count < 2 ^ 64 → CanBeLeftOut places.ended
-left_out_of places some count small bound =
-    let one : (let all : ℕ = cond (is_some places.last) 1 0 in all) ≡ 1 = rw some refl in
-    omega (arith, one, small, bound)
 
 -- ---- the samples of one frame more
 
@@ -239,93 +181,54 @@ bytes_push bit_depth frames frame =
     ap (whole_bytes_of_samples bit_depth) (flat_map-append (λ (f : FrameValue). interleave f.block.channels) frames (frame ∷ []) ∙ ap (λ (zs : List _). samples_of_frames frames ++ zs) (append-nil (interleave frame.block.channels)))
     ∙ flat_map-append _ (samples_of_frames frames) (interleave frame.block.channels)
 
--- ---- one frame more
+-- ---- one part more
+
+-- the scan after one part more
+scan_with : (info : Streaminfo) (found : List FoundPart) (here : FoundPart) (scan : Scan) (places : List Place) → scan_parts info (record { scan = begun_scan; places = [] }) found ≡ record { scan = scan; places = places } → scan_parts info (record { scan = begun_scan; places = [] }) (found ++ here ∷ []) ≡ scan_more info (record { scan = scan; places = places }) here
+scan_with info found here scan places e = scan_push info (record { scan = begun_scan; places = [] }) found here ∙ ap (λ (z : Scans). scan_more info z here) e
+
+-- without a place
+scan_fault : (info : Streaminfo) (found : List FoundPart) (byte : ℕ) (fault : FrameError) (scan new : Scan) (places : List Place) → scan_parts info (record { scan = begun_scan; places = [] }) found ≡ record { scan = scan; places = places } → new ≡ damaged byte (FaultDamage fault) scan
+    → scan_parts info (record { scan = begun_scan; places = [] }) (found ++ record { start = byte; what = Err fault } ∷ []) ≡ record { scan = new; places = places }
+scan_fault info found byte fault scan new places e is =
+    scan_with info found (record { start = byte; what = Err fault }) scan places e
+    ∙ ap (λ (z : List Place). record { scan = damaged byte (FaultDamage fault) scan; places = z }) (append-nil places)
+    ∙ ap (λ (z : Scan). record { scan = z; places = places }) (sym is)
+
+-- so many are kept
+pub none_few : (items : List Place) (more : ℕ) → items ≡ [] → length items ≤ more
+none_few items more none = let l : length items ≡ 0 = ap length none in omega (arith, l)
+
+pub frame_few : {A B : Type 0} {info : Streaminfo} {frame : DecodedFrame B} {byte more : ℕ} {old new : Walk A} → AddsFrame info frame byte old new → old.places.more ≡ more → length old.places.places.more.items ≤ more → length new.places.places.more.items ≤ more
+frame_few {old = old} {new = new} adds same few = subst (λ (n : ℕ). length new.places.places.more.items ≤ n) same (adds.places.few (subst (λ (n : ℕ). length old.places.places.more.items ≤ n) (sym same) few))
+
+pub same_more : {A : Type 0} {fault : FrameError} {byte end : ℕ} {old new : Walk A} → AddsFault fault byte end old new → new.places.more ≡ old.places.more
+same_more {A = A} adds = ap (λ (z : KeptPlaces A). z.more) adds.places_are
+
+pub fault_few : {A : Type 0} {fault : FrameError} {byte end more : ℕ} {old new : Walk A} → AddsFault fault byte end old new → length old.places.places.more.items ≤ more → length new.places.places.more.items ≤ more
+fault_few {A = A} {more = more} adds few = subst (λ (z : KeptPlaces A). length z.places.more.items ≤ more) (sym adds.places_are) few
+
+pub end_more : {A : Type 0} {end : ℕ} {old new : Walk A} → EndsWalk end old new → new.places.more ≡ old.places.more
+end_more {A = A} ends = ap (λ (z : KeptPlaces A). z.more) ends.places_are
+
+pub end_few : {A : Type 0} {end more : ℕ} {old new : Walk A} → EndsWalk end old new → length old.places.places.more.items ≤ more → length new.places.places.more.items ≤ more
+end_few {A = A} {more = more} ends few = subst (λ (z : KeptPlaces A). length z.places.more.items ≤ more) (sym ends.places_are) few
+
+-- at the end all bytes were consumed
+eof_reached : {stream : Option StreamFormat} {r : FrameAnswer} {a b : State ℕ} → r ≡ Ok None → ReadsFrame stream r a b → ReachedEof 2 a b
+eof_reached {stream = stream} {a = a} {b = b} e h = subst (λ (z : FrameAnswer). GivesOrEofOrOutOfMemory 2 block_view z (frame_bytes_at stream) a b) e h.gives
+
+pub at_eof : {R : Type 0} {stream : Option StreamFormat} {r : FrameAnswer} (source : R → Source ℕ) (x y z : RunningReader R BytesRead) → r ≡ Ok None → ReadsFrame stream r (counted_bytes source y) (counted_bytes source z) → RemainingIsKnown (counted_bytes source x) → RemainingIsKnown (counted_bytes source y) → final_values (counted_bytes source y) ≡ final_values (counted_bytes source x) → position_of z < 2 ^ 64
+    → position_of z ≡ (position_of x + length (counted_bytes source x).remaining) % 2 ^ 64
+at_eof source x y z e h known after values small =
+    let k = (eof_reached e h).known after in
+    position_after source x z known k.known (k.values ∙ values) small (counted_bytes source x).remaining (sym (append-nil (counted_bytes source x).remaining) ∙ ap (λ (m : List ℕ). (counted_bytes source x).remaining ++ m) (sym k.is.1))
 
 module _ {A : Type 0} {computes_md5 : Bool} {stream : Option StreamFormat} {info : Streaminfo} {start : ℕ} {a b : State ℕ} {count : ℕ} {walk : Walk A} (h : WalkedSoFar computes_md5 stream info start a b count walk) where
   with_frame_or_fault : (part : FrameOrFault) (c : State ℕ) → Consumed b c (FrameOrFaultBytes stream part) → (k : RemainingIsKnown a) → (RemainingIsKnown c) × FramesAndFaults stream a.remaining ((h.is k).parts ++ part ∷ []) c.remaining
   with_frame_or_fault part c consumed k =
       let w = consumed (h.known k) in
       (w.0, parts_push stream (h.is k).parts part a.remaining b.remaining w.1.0 c.remaining (h.is k).parts_are w.1.1 w.1.2)
-
-  -- damage after frames in order is the first
-  new_first : {failed : Type 0} (place : Place) (sample : ℕ) (damage : Damage) (byte : ℕ) (k : RemainingIsKnown a) → ((front : List ℕ) → a.remaining ≡ front ++ b.remaining → byte ≡ (start + length front) % 2 ^ 64) → PlaceBegins byte sample damage place → sample ≡ walk.samples
-      → sum_by fault_count_of (h.is k).parts ≡ 0 → AreInOrder info (frames_of (h.is k).parts) → IsDamageAt failed stream info (frames_of (h.is k).parts) b.remaining damage → IsFirst failed stream info start a.remaining place
-  new_first {failed = failed} place sample damage byte k at begins same none in_order is =
-      let p = h.is k in
-      let q = parts_front stream p.parts a.remaining b.remaining p.parts_are in
-      let f = frames_of_all stream p.parts a.remaining b.remaining p.parts_are none in
-      record {
-        front = q.0;
-        before = frames_of p.parts;
-        left = b.remaining;
-        joined = q.1;
-        frames_are = f.0;
-        in_order = in_order;
-        byte_is = begins.byte_is ∙ at q.0 q.1;
-        sample_is = begins.sample_is ∙ same ∙ p.samples ∙ f.1;
-        damage = subst (IsDamageAt failed stream info (frames_of p.parts) b.remaining) (sym begins.damage_is) is;
-      }
-
-  keeps_first : (new : Option Place) (old : Place) → IsFirst ⊥ stream info start a.remaining old → KeepsFirstPlace (Some old) new → (place : Place) × (new ≡ Some place) × IsFirst ⊥ stream info start a.remaining place
-  keeps_first None old f keeps = absurd keeps
-  keeps_first (Some new) old f keeps = (new, refl, alike stream info start a.remaining old new keeps f)
-
-  -- what is first after a frame
-  first_after_frame : {B : Type 0} {more : Walk A} (frame : DecodedFrame B) (byte : ℕ) (k : RemainingIsKnown a) → ((front : List ℕ) → a.remaining ≡ front ++ b.remaining → byte ≡ (start + length front) % 2 ^ 64) → BeginsWith (FrameWithHeader stream (decoded_view frame)) b.remaining → AddsFrame info frame byte walk more
-      → FirstSoFar stream info start a.remaining ((h.is k).parts ++ Ok (decoded_view frame) ∷ []) more.order more.sample more.samples (first_place more.places)
-  unfolding FirstSoFar
-  first_after_frame {more = more} frame byte k at begins adds = go (first_place walk.places) adds.damage refl p.first adds.is_judged adds.first adds.goes_on adds.sample_is
-    where
-      p : SoFar computes_md5 stream info start a.remaining b.remaining count walk
-      p = h.is k
-
-      value : FrameValue
-      value = decoded_view frame
-
-      part : FrameOrFault
-      part = Ok value
-
-      parts : List FrameOrFault
-      parts = p.parts ++ part ∷ []
-
-      kept : (old : Place) → IsFirst ⊥ stream info start a.remaining old → KeepsFirstPlace (Some old) (first_place more.places) → FirstSoFar stream info start a.remaining parts more.order more.sample more.samples (first_place more.places)
-      kept old f keeps =
-          let q = keeps_first (first_place more.places) old f keeps in
-          subst (FirstSoFar stream info start a.remaining parts more.order more.sample more.samples) (sym q.1) q.2
-
-      next : (order : IsOrderAfter (frames_of p.parts) walk.order) → GoesOn (frame_duration value) value.info walk.order more.order → IsNextAfter info (frames_of p.parts) value → sum_by fault_count_of p.parts ≡ 0 → IsOrderAfter (frames_of parts) more.order
-      next order goes is none =
-          let f = frames_of_all stream p.parts a.remaining b.remaining p.parts_are none in
-          let l : length (frames_of p.parts ++ value ∷ []) ≡ length (frames_of p.parts) + 1 = length-append (frames_of p.parts) (value ∷ []) in
-          let s = sum_by_push frame_duration (frames_of p.parts) value in
-          let few : length (frames_of p.parts ++ value ∷ []) < 2 ^ 64 = omega (arith, l, f.2, p.frames, adds.frames_are, adds.frames_fit) in
-          let small : sum_by frame_duration (frames_of p.parts ++ value ∷ []) < 2 ^ 64 = omega (arith, s, f.1, p.samples, adds.samples_are, adds.samples_fit) in
-          subst (λ (fs : List FrameValue). IsOrderAfter fs more.order) (sym (frames_of-append p.parts (part ∷ []))) (order_after info (frames_of p.parts) value walk.order more.order order is goes few small)
-
-      go : (old : Option Place) (damage : Option Damage) → first_place walk.places ≡ old → FirstSoFar stream info start a.remaining p.parts walk.order walk.sample walk.samples old → IsJudged info walk.order.is_variable walk.order.number value damage
-          → FirstBecomes damage byte walk.sample old (first_place more.places) → (damage ≡ None → GoesOn (frame_duration value) value.info walk.order more.order) → (damage ≡ None → walk.sample + frame_duration value < 2 ^ 64 → more.sample ≡ walk.sample + frame_duration value)
-          → FirstSoFar stream info start a.remaining parts more.order more.sample more.samples (first_place more.places)
-      go None None is so_far judged becomes goes sample =
-          let order = so_far.2 in
-          let next_is : IsNextAfter info (frames_of p.parts) value = subst (λ (s : Option Bool). IsNext info s (number_after (frames_of p.parts)) value) order.strategy (subst (λ (n : ℕ). IsNext info walk.order.is_variable n value) order.number judged) in
-          let same : walk.sample ≡ walk.samples = so_far.3 in
-          let fits : walk.sample + frame_duration value < 2 ^ 64 = omega (arith, same, adds.samples_are, adds.samples_fit) in
-          let faults = sum_by_push fault_count_of p.parts part in
-          subst (FirstSoFar stream info start a.remaining parts more.order more.sample more.samples) (sym becomes) (
-            omega (arith, faults, so_far.0),
-            subst (AreInOrder info) (sym (frames_of-append p.parts (part ∷ []))) (in_order_push info [] (frames_of p.parts) value so_far.1 next_is),
-            next order (goes refl) next_is so_far.0,
-            sample refl fits ∙ ap (λ (n : ℕ). n + frame_duration value) same ∙ sym adds.samples_are,
-          )
-      go None (Some damage) is so_far judged becomes goes sample =
-          let order = so_far.2 in
-          let not_next : IsNotNext info (strategy_after (frames_of p.parts)) (number_after (frames_of p.parts)) value damage =
-          subst (λ (s : Option Bool). IsNotNext info s (number_after (frames_of p.parts)) value damage) order.strategy (subst (λ (n : ℕ). IsNotNext info walk.order.is_variable n value damage) order.number judged) in
-          let place = becomes.0 in
-          subst (FirstSoFar stream info start a.remaining parts more.order more.sample more.samples) (sym becomes.1)
-          (new_first place walk.sample damage byte k at becomes.2 so_far.3 so_far.0 so_far.1 (frame_damage stream info (frames_of p.parts) b.remaining value damage begins not_next))
-      go (Some old) None is so_far judged becomes goes sample = kept old so_far becomes
-      go (Some old) (Some damage) is so_far judged becomes goes sample = kept old so_far becomes
 
   -- where the next part begins
   part_at : (k : RemainingIsKnown a) → (front : List ℕ) × (a.remaining ≡ front ++ b.remaining) × (start + length a.remaining ≡ (start + length front) + length b.remaining)
@@ -335,28 +238,11 @@ module _ {A : Type 0} {computes_md5 : Bool} {stream : Option StreamFormat} {info
       let l : length a.remaining ≡ length q.0 + length b.remaining = ap length q.1 ∙ length-append q.0 b.remaining in
       (q.0, q.1, omega arith)
 
-  found_after_frame : {B : Type 0} {more : Walk A} (frame : DecodedFrame B) (byte : ℕ) (k : RemainingIsKnown a) (t n : List ℕ) → FrameWithHeader stream (decoded_view frame) t → b.remaining ≡ t ++ n → ((front : List ℕ) → a.remaining ≡ front ++ b.remaining → byte ≡ (start + length front) % 2 ^ 64) → AddsFrame info frame byte walk more → count + 1 < 2 ^ 64
-      → FoundSoFar stream start a.remaining n ((h.is k).parts ++ Ok (decoded_view frame) ∷ []) (count + 1) more.places
-  found_after_frame {more = more} frame byte k t n code joined at adds bound = go adds.damage adds.counts
-    where
-      q : (front : List ℕ) × (a.remaining ≡ front ++ b.remaining) × (start + length a.remaining ≡ (start + length front) + length b.remaining)
-      q = part_at k
-
-      part : FrameOrFault
-      part = Ok (decoded_view frame)
-
-      kept : KeepsCount walk.places more.places → FoundSoFar stream start a.remaining n ((h.is k).parts ++ part ∷ []) (count + 1) more.places
-      kept keeps = without_place (h.is k).found part t n (start + length q.0) more.places code joined q.2 (inl refl) keeps
-
-      go : (damage : Option Damage) → CountsDamage damage byte walk.places more.places → FoundSoFar stream start a.remaining n ((h.is k).parts ++ part ∷ []) (count + 1) more.places
-      go None keeps = kept keeps
-      go (Some damage) (inl keeps) = kept keeps
-      go (Some damage) (inr w) = with_place (h.is k).found part t n (start + length q.0) w.0 more.places code joined q.2 (inr (w.0, refl, w.1 ∙ at q.0 q.1)) w.3 bound
-
   pub frame_added : {B : Type 0} {more : Walk A} (frame : DecodedFrame B) (byte : ℕ) (c : State ℕ) → count + 1 < 2 ^ 64 → (RemainingIsKnown a → (front : List ℕ) → a.remaining ≡ front ++ b.remaining → byte ≡ (start + length front) % 2 ^ 64) → BlockIsRead stream (Ok (Some frame.block)) b c
       → Consumed b c (FrameWithHeader stream (decoded_view frame)) → AddsFrame info frame byte walk more → WalkedSoFar computes_md5 stream info start a c (count + 1) more
   frame_added {more = more} frame byte c bound at read consumed adds =
       let part : FrameOrFault = Ok (decoded_view frame) in
+      let scanned = scan_frame info byte adds.found walk.scan in
       record {
         errors = read.kept.0 ∙ h.errors;
         empty_reads = read.kept.1 ∙ h.empty_reads;
@@ -366,17 +252,22 @@ module _ {A : Type 0} {computes_md5 : Bool} {stream : Option StreamFormat} {info
         is = λ k.
             let p = h.is k in
             let w = (consumed (h.known k)).1 in
+            let q = part_at k in
             record {
               parts = p.parts ++ part ∷ [];
               parts_are = (with_frame_or_fault part c consumed k).1;
               count_is = omega (arith, p.count_is, sum_by_push frame_count_of p.parts part, sum_by_push fault_count_of p.parts part);
               frames = adds.frames_are ∙ ap (λ (z : ℕ). z + 1) p.frames ∙ sym (sum_by_push frame_count_of p.parts part);
               samples = adds.samples_are ∙ ap (λ (z : ℕ). z + frame_duration (decoded_view frame)) p.samples ∙ sym (sum_by_push sample_count_of p.parts part);
-              first = first_after_frame frame byte k (at k) (w.0, c.remaining, w.1, w.2) adds;
+              samples_fit = adds.samples_fit;
               sizes = subst (λ (fs : List FrameValue). AreSizesOf fs more.sizes) (sym (frames_of-append p.parts (part ∷ []))) (adds.sizes (frames_of p.parts) (decoded_view frame) refl refl p.sizes);
               hashed = subst (λ (bytes : List ℕ). HasHashedBytes computes_md5 bytes more.md5) (sym (ap (bytes_of_frames info.bit_depth) (frames_of-append p.parts (part ∷ [])) ∙ bytes_push info.bit_depth (frames_of p.parts) (decoded_view frame)))
                   (hashed_push computes_md5 info.bit_depth frame.block (bytes_of_frames info.bit_depth (frames_of p.parts)) walk.md5 more.md5 p.hashed adds.hashes);
-              found = found_after_frame frame byte k w.0 c.remaining w.1 w.2 (at k) adds bound;
+              found = p.found ++ record { start = byte; what = Ok adds.found } ∷ [];
+              found_are = found_push stream info p.parts start a.remaining b.remaining p.found p.found_are part w.0 c.remaining (record { start = byte; what = Ok adds.found }) (start + length q.0) w.1 w.2 q.2 (at k q.0 q.1) adds.is_found;
+              places = p.places ++ list_of scanned.place;
+              scan = scan_with info p.found (record { start = byte; what = Ok adds.found }) walk.scan p.places p.scan ∙ ap (λ (z : Scan). record { scan = z; places = p.places ++ list_of scanned.place }) (sym adds.scan_is);
+              keeps = adds.places.keeps p.places p.keeps;
             };
       }
 
@@ -389,41 +280,44 @@ module _ {A : Type 0} {computes_md5 : Bool} {stream : Option StreamFormat} {info
     | inr (inr f) ↦ f k
   ]
 
+  -- what is counted can be
+  fit_now : (k : RemainingIsKnown a) → count + 1 < 2 ^ 64 → CanBeCounted (h.is k).parts
+  fit_now k bound = let p = h.is k in let fit = p.samples_fit in let same = p.samples in let all = p.count_is in (omega (arith, fit, same), omega (arith, all, bound))
+
+  -- the end
+  pub eof_found : {more : Walk A} (end : ℕ) (c : State ℕ) → count + 1 < 2 ^ 64 → BlockIsRead stream (Ok None) b c → (RemainingIsKnown a → end ≡ (start + length a.remaining) % 2 ^ 64) → EndsWalk end walk more → WalksToEnd computes_md5 stream info start a c more
+  eof_found {more = more} end c bound read at_end ends k counts counted =
+      let p = h.is k in
+      let q = part_at k in
+      let scan : scan_parts info (record { scan = begun_scan; places = [] }) (p.found ++ []) ≡ record { scan = more.scan; places = p.places } =
+      ap (scan_parts info (record { scan = begun_scan; places = [] })) (append-nil p.found) ∙ p.scan ∙ ap (λ (z : Scan). record { scan = z; places = p.places }) (sym ends.scan_is) in (
+        record {
+          parts = p.parts;
+          is_cut = false;
+          front = q.0;
+          rest = b.remaining;
+          joined = q.1;
+          parts_are = p.parts_are;
+          ends = read.eof refl (h.known k);
+          fit = fit_now k bound;
+          frames = counted.frames_are ∙ ends.frames_are ∙ p.frames;
+          samples = counted.samples_are ∙ ends.samples_are ∙ p.samples;
+          sizes = counted.sizes_are ∙ ap (λ (s : SizesSoFar). s.changed) ends.sizes_are ∙ changed_of (frames_of p.parts) walk.sizes p.sizes;
+          found = p.found;
+          last = [];
+          found_are = p.found_are;
+          last_is = refl;
+          end = more.end;
+          end_is = λ e. ends.end_is ∙ at_end k;
+          kept = subst (λ (z : Scans). AreKept (places_at more.end info.samples z) counts.first counts.more counts.left_out) (sym scan) (counted.kept p.places (subst (λ (z : KeptPlaces A). Keeps p.places z) (sym ends.places_are) p.keeps));
+        },
+        subst (HasHashedBytes computes_md5 (bytes_of_frames info.bit_depth (frames_of p.parts))) (sym ends.md5_is) p.hashed,
+      )
+
   module _ {byte end : ℕ} (at : RemainingIsKnown a → (front : List ℕ) → a.remaining ≡ front ++ b.remaining → byte ≡ (start + length front) % 2 ^ 64) where
-    found_after_fault : {more : Walk A} (fault : FrameError) (k : RemainingIsKnown a) (f : Fault) (t n : List ℕ) → IsFault f fault.error → FrameBytesFault stream f t → b.remaining ≡ t ++ n → ((front : List ℕ) → a.remaining ≡ front ++ n → end ≡ (start + length front) % 2 ^ 64) → AddsFault fault byte end walk more → count + 1 < 2 ^ 64
-        → FoundSoFar stream start a.remaining n ((h.is k).parts ++ Err f ∷ []) (count + 1) more.places
-    found_after_fault {more = more} fault k f t n named bad joined at_end adds bound =
-        let q = part_at k in
-        let place = adds.counts.0 in
-        let whole : a.remaining ≡ (q.0 ++ t) ++ n = q.1 ∙ ap (λ (z : List ℕ). q.0 ++ z) joined ∙ sym (append_assoc q.0 t n) in
-        let far : start + length (q.0 ++ t) ≡ (start + length q.0) + length t = omega (arith, length-append q.0 t) in
-        with_place (h.is k).found (Err f) t n (start + length q.0) place more.places bad joined q.2 (
-          place,
-          refl,
-          record {
-            begins = adds.counts.1 ∙ at k q.0 q.1;
-            ends = adds.counts.2 ∙ at_end (q.0 ++ t) whole ∙ ap (λ (m : ℕ). m % 2 ^ 64) far;
-            fault = subst (IsFaultWith (IsFault f)) (sym adds.counts.3) named;
-          },
-        ) adds.counts.4 bound
-
-    -- what is first after a fault
-    first_after_fault : {failed : Type 0} {more : Walk A} (fault : FrameError) (k : RemainingIsKnown a) → IsFaultAt failed stream b.remaining fault.error → (IsTrue fault.is_32_bit ↔ Is32BitFault b.remaining fault.error) → AddsFault fault byte end walk more
-        → (place : Place) × (first_place more.places ≡ Some place) × IsFirst failed stream info start a.remaining place
-    unfolding FirstSoFar
-    first_after_fault {failed = failed} {more = more} fault k is is_32_bit adds = go (first_place walk.places) (h.is k).first adds.first
-      where
-        go : (old : Option Place) → FirstSoFar stream info start a.remaining (h.is k).parts walk.order walk.sample walk.samples old → FirstBecomes (Some (FaultDamage fault)) byte walk.sample old (first_place more.places)
-            → (place : Place) × (first_place more.places ≡ Some place) × IsFirst failed stream info start a.remaining place
-        go None so_far becomes = (becomes.0, becomes.1, new_first becomes.0 walk.sample (FaultDamage fault) byte k (at k) becomes.2 so_far.3 so_far.0 so_far.1 (is, is_32_bit))
-        go (Some old) so_far becomes =
-            let q = keeps_first (first_place more.places) old so_far becomes in
-            (q.0, q.1, first_weaker stream info start a.remaining q.0 (λ (x : ⊥). absurd x) q.2)
-
-    pub fault_added : {more : Walk A} (fault : FrameError) (c : State ℕ) → count + 1 < 2 ^ 64 → (RemainingIsKnown a → RemainingIsKnown c → final_values c ≡ final_values a → (front : List ℕ) → a.remaining ≡ front ++ c.remaining → end ≡ (start + length front) % 2 ^ 64) → BlockIsRead stream (Err fault.error) b c → (RemainingIsKnown b → IsTrue fault.is_32_bit ↔ Is32BitFault b.remaining fault.error) → is_io fault.error ≡ false → is_out_of_memory fault.error ≡ false → AddsFault fault byte end walk more
+    pub fault_added : {more : Walk A} (fault : FrameError) (c : State ℕ) → BlockIsRead stream (Err fault.error) b c → (RemainingIsKnown b → IsTrue fault.is_32_bit ↔ Is32BitFault b.remaining fault.error) → is_io fault.error ≡ false → is_out_of_memory fault.error ≡ false → AddsFault fault byte end walk more
         → WalkedSoFar computes_md5 stream info start a c (count + 1) more
-    unfolding FirstSoFar
-    fault_added {more = more} fault c bound at_end read is_32_bit io memory adds =
+    fault_added {more = more} fault c read is_32_bit io memory adds =
         let error = fault.error in
         let kept = kept_err error io memory read.kept in
         record {
@@ -437,119 +331,58 @@ module _ {A : Type 0} {computes_md5 : Bool} {stream : Option StreamFormat} {info
               let f = fault_consumed error c read io memory (h.known k) in
               let part : FrameOrFault = Err f.0 in
               let w = (f.2 (h.known k)).1 in
+              let q = part_at k in
               let frames_are : frames_of (p.parts ++ part ∷ []) ≡ frames_of p.parts = frames_of-append p.parts (part ∷ []) ∙ append-nil (frames_of p.parts) in
-              let first = first_after_fault {failed = ⊥} {more = more} fault k (inl (f.0, f.1, (w.0, c.remaining, w.1, w.2))) (is_32_bit (h.known k)) adds in
               record {
                 parts = p.parts ++ part ∷ [];
                 parts_are = (with_frame_or_fault part c f.2 k).1;
                 count_is = omega (arith, p.count_is, sum_by_push frame_count_of p.parts part, sum_by_push fault_count_of p.parts part);
                 frames = adds.frames_are ∙ p.frames ∙ omega (arith, sum_by_push frame_count_of p.parts part);
                 samples = adds.samples_are ∙ p.samples ∙ omega (arith, sum_by_push sample_count_of p.parts part);
-                first = subst (FirstSoFar stream info start a.remaining (p.parts ++ part ∷ []) more.order more.sample more.samples) (sym first.1) first.2;
+                samples_fit = let fit = p.samples_fit in let same = adds.samples_are in omega (arith, fit, same);
                 sizes = subst (λ (fs : List FrameValue). AreSizesOf fs more.sizes) (sym frames_are) (subst (AreSizesOf (frames_of p.parts)) (sym adds.sizes_are) p.sizes);
                 hashed = subst (λ (fs : List FrameValue). HasHashedBytes computes_md5 (bytes_of_frames info.bit_depth fs) more.md5) (sym frames_are) (subst (HasHashedBytes computes_md5 (bytes_of_frames info.bit_depth (frames_of p.parts))) (sym adds.md5_is) p.hashed);
-                found = found_after_fault fault k f.0 w.0 c.remaining f.1 w.1 w.2 (λ front e. at_end k (f.2 (h.known k)).0 (kept.2 (h.known k) ∙ h.values k) front e) adds bound;
+                found = p.found ++ record { start = byte; what = Err fault } ∷ [];
+                found_are = found_push stream info p.parts start a.remaining b.remaining p.found p.found_are part w.0 c.remaining (record { start = byte; what = Err fault }) (start + length q.0) w.1 w.2 q.2 (at k q.0 q.1) (f.1, is_32_bit (h.known k));
+                places = p.places;
+                scan = scan_fault info p.found byte fault walk.scan more.scan p.places p.scan adds.scan_is;
+                keeps = subst (λ (z : KeptPlaces A). Keeps p.places z) (sym adds.places_are) p.keeps;
               };
         }
 
     -- a frame that isn't whole is the last one
-    pub cut_found : {more : Walk A} (fault : FrameError) (c : State ℕ) → BlockIsRead stream (Err fault.error) b c → (RemainingIsKnown b → IsTrue fault.is_32_bit ↔ Is32BitFault b.remaining fault.error) → IsIo fault.error → AddsFault fault byte end walk more → WalksToEnd computes_md5 stream info start a c more
-    cut_found {more = more} fault c read is_32_bit io adds k =
+    pub cut_found : {more : Walk A} (fault : FrameError) (c : State ℕ) → count + 1 < 2 ^ 64 → BlockIsRead stream (Err fault.error) b c → (RemainingIsKnown b → IsTrue fault.is_32_bit ↔ Is32BitFault b.remaining fault.error) → IsIo fault.error → AddsFault fault byte end walk more → WalksToEnd computes_md5 stream info start a c more
+    cut_found {more = more} fault c bound read is_32_bit io adds k counts counted =
         let p = h.is k in
+        let q = part_at k in
         let why : IsNotWhole stream b.remaining ⊎ ReadFailedIn a c = elim (read.io io (h.known k)) [
           | inl n ↦ inl n
           | inr f ↦ inr (elim f [ inl n ↦ inl (λ e. n (e ∙ sym h.errors)) | inr n ↦ inr (λ e. n.0 (e ∙ sym h.empty_reads), n.1) ])
         ] in
-        let first = first_after_fault {failed = ReadFailedIn a c} {more = more} fault k (inr (io, why)) (is_32_bit (h.known k)) adds in (
-          record {
-            parts = p.parts;
-            is_cut = true;
-            rest = b.remaining;
-            parts_are = p.parts_are;
-            ends = why;
-            frames = adds.frames_are ∙ p.frames;
-            samples = adds.samples_are ∙ p.samples;
-            first = subst (FirstIs (ReadFailedIn a c) stream info start a.remaining p.parts true) (sym first.1) first.2;
-            sizes = ap (λ (s : SizesSoFar). s.changed) adds.sizes_are ∙ changed_of (frames_of p.parts) walk.sizes p.sizes;
-          },
-          subst (HasHashedBytes computes_md5 (bytes_of_frames info.bit_depth (frames_of p.parts))) (sym adds.md5_is) p.hashed,
-        )
-
-    -- its place is the last one
-    pub cut_places : {more : Walk A} (fault : FrameError) (c : State ℕ) → count + 1 < 2 ^ 64 → BlockIsRead stream (Err fault.error) b c → IsIo fault.error → AddsFault fault byte end walk more → WalksPlaces stream start a c more
-    cut_places {more = more} fault c bound read io adds k =
-        let p = h.is k in
-        let q = part_at k in
-        let place = adds.counts.0 in
-        let w = so_many_with p.found place more.places adds.counts.4 bound in (
+        let here : FoundPart = record { start = byte; what = Err fault } in
+        let scan = scan_fault info p.found byte fault walk.scan more.scan p.places p.scan adds.scan_is in (
           record {
             parts = p.parts;
             is_cut = true;
             front = q.0;
             rest = b.remaining;
-            found = p.found.found;
-            last = place ∷ [];
             joined = q.1;
-            places_are = p.found.are;
-            ends = elim (read.io io (h.known k)) [
-              | inl n ↦ inl n
-              | inr f ↦ inr (elim f [ inl n ↦ inl (λ e. n (e ∙ sym h.errors)) | inr n ↦ inr (λ e. n.0 (e ∙ sym h.empty_reads), n.1) ])
-            ];
-            last_is = (place, refl, adds.counts.1 ∙ at k q.0 q.1, subst (IsFaultWith IsIo) (sym adds.counts.3) io);
-            so_many = w.0;
+            parts_are = p.parts_are;
+            ends = why;
+            fit = fit_now k bound;
+            frames = counted.frames_are ∙ adds.frames_are ∙ p.frames;
+            samples = counted.samples_are ∙ adds.samples_are ∙ p.samples;
+            sizes = counted.sizes_are ∙ ap (λ (s : SizesSoFar). s.changed) adds.sizes_are ∙ changed_of (frames_of p.parts) walk.sizes p.sizes;
+            found = p.found;
+            last = here ∷ [];
+            found_are = p.found_are;
+            last_is = (here, fault, refl, at k q.0 q.1, refl, io, is_32_bit (h.known k));
+            end = more.end;
+            end_is = λ e. absurd (let z : true ≡ false = e in cc);
+            kept = subst (λ (z : Scans). AreKept (places_at more.end info.samples z) counts.first counts.more counts.left_out) (sym scan) (counted.kept p.places (subst (λ (z : KeptPlaces A). Keeps p.places z) (sym adds.places_are) p.keeps));
           },
-          left_out_of more.places adds.counts.4.some (count + 1) w.1 bound,
+          subst (HasHashedBytes computes_md5 (bytes_of_frames info.bit_depth (frames_of p.parts))) (sym adds.md5_is) p.hashed,
         )
-
-  -- the end
-  pub eof_places : {more : Walk A} (c : State ℕ) → count + 1 < 2 ^ 64 → BlockIsRead stream (Ok None) b c → EndsWalk walk more → WalksPlaces stream start a c more
-  eof_places {more = more} c bound read ends k =
-      let p = h.is k in
-      let q = part_at k in
-      let small = p.found.small in
-      let same = ends.count in (
-        record {
-          parts = p.parts;
-          is_cut = false;
-          front = q.0;
-          rest = b.remaining;
-          found = p.found.found;
-          last = [];
-          joined = q.1;
-          places_are = p.found.are;
-          ends = read.eof refl (h.known k);
-          last_is = refl;
-          so_many = subst (λ (z : List Place). AreSoMany None z (count_so_far more.places)) (sym (append-nil p.found.found)) (subst (AreSoMany None p.found.found) (sym same) p.found.so_many);
-        },
-        omega (arith, small, same, bound),
-      )
-
-  pub eof_found : {more : Walk A} (c : State ℕ) → BlockIsRead stream (Ok None) b c → EndsWalk walk more → WalksToEnd computes_md5 stream info start a c more
-  unfolding FirstSoFar
-  eof_found {more = more} c read ends k =
-      let p = h.is k in (
-        record {
-          parts = p.parts;
-          is_cut = false;
-          rest = b.remaining;
-          parts_are = p.parts_are;
-          ends = read.eof refl (h.known k);
-          frames = ends.frames_are ∙ p.frames;
-          samples = ends.samples_are ∙ p.samples;
-          first = kept (first_place walk.places) (first_place more.places) ends.first (go (first_place walk.places) p.first);
-          sizes = ap (λ (s : SizesSoFar). s.changed) ends.sizes_are ∙ changed_of (frames_of p.parts) walk.sizes p.sizes;
-        },
-        subst (HasHashedBytes computes_md5 (bytes_of_frames info.bit_depth (frames_of p.parts))) (sym ends.md5_is) p.hashed,
-      )
-    where
-      kept : (o n : Option Place) → KeepsFirstPlace o n → FirstIs (ReadFailedIn a c) stream info start a.remaining (h.is k).parts false o → FirstIs (ReadFailedIn a c) stream info start a.remaining (h.is k).parts false n
-      kept None n keeps f = subst (FirstIs (ReadFailedIn a c) stream info start a.remaining (h.is k).parts false) (sym keeps) f
-      kept (Some old) None keeps f = absurd keeps
-      kept (Some old) (Some new) keeps f = alike stream info start a.remaining old new keeps f
-
-      go : (o : Option Place) → FirstSoFar stream info start a.remaining (h.is k).parts walk.order walk.sample walk.samples o → FirstIs (ReadFailedIn a c) stream info start a.remaining (h.is k).parts false o
-      go None f = (refl, (f.0, f.1))
-      go (Some place) f = first_weaker stream info start a.remaining place (λ (x : ⊥). absurd x) f
 
   -- ---- what can't be counted
 

@@ -7,15 +7,20 @@ use Rattle.std.specs.Prelude.{
   suc,
   ◌+◌,
   ◌-◌,
+  ◌<◌,
   ◌%◌,
   ◌^◌,
   Bool,
   false,
+  true,
   if◌then◌else◌,
   ◌&&◌,
   ◌||◌,
   List,
+  [],
+  ◌∷◌,
   ◌++◌,
+  length,
   Option,
   None,
   Some,
@@ -24,6 +29,8 @@ use Rattle.std.specs.Prelude.{
   Ok,
   Err,
 }
+use Rattle.std.specs.List.{list_any}
+use Rattle.claxon.specs.Codes.{when◌then◌else◌, Each, MeetsOr, Met, Never, ThenFault}
 use Rattle.claxon.specs.Error.{IsFault, is_io, is_out_of_memory}
 use Rattle.claxon.specs.Errors.{Error}
 use Rattle.claxon.specs.Fault.{
@@ -39,11 +46,25 @@ use Rattle.claxon.specs.Fault.{
   TooManyBlocks,
   VendorNotUtf8,
 }
-use Rattle.claxon.specs.Heads.{is_comment, is_info, stream_marker}
-use Rattle.claxon.specs.Metadata.{BlockHeader, BlockHeaderCode}
+use Rattle.claxon.specs.Heads.{
+  Marker,
+  MarkerFault,
+  is_comment,
+  is_info,
+  max_blocks,
+  stream_marker,
+}
+use Rattle.claxon.specs.Metadata.{Big, BlockHeader, BlockHeaderCode}
 use Rattle.claxon.specs.MetadataBlock.{BlockHasBounds, MayRunOutOfMemory, content_view, info_view}
-use Rattle.claxon.specs.MetadataBlocks.{Content, Info}
-use Rattle.claxon.specs.Promises.{IsOutOfMemory}
+use Rattle.claxon.specs.MetadataBlocks.{Body, BodyFault, Content, Info}
+use Rattle.claxon.specs.Promises.{
+  CodeIsComplete,
+  CodeIsSound,
+  ElseIoError,
+  FaultIsComplete,
+  FaultIsSound,
+  IsOutOfMemory,
+}
 use Rattle.claxon.specs.State.{State, RemainingIsKnown}
 use Rattle.claxon.specs.StreamInfos.{StreamInfo}
 use Rattle.claxon.specs.Streaminfo.{Streaminfo}
@@ -56,6 +77,7 @@ use Rattle.claxon.specs.read.Reading.{
   Faulty,
   Incomplete,
   Reading,
+  Reads,
   and_then,
   bind,
   done,
@@ -95,32 +117,36 @@ unsupported_by _ = None
 abbrev pub FoundContent : Type 0
 FoundContent = Result Content UnsupportedBlock
 
--- of content with a fault all n bytes are passed over, if it is one of these
-abbrev pub passed_over : ℕ → List ℕ → Fault → List ℕ → Option UnsupportedBlock
-    → Reading ℕ FoundContent
-passed_over n s f rest None = Faulty f rest
-passed_over n s f rest (Some why) = bind (bytes_at n s) (λ bytes left. Done (Err why) left)
+-- n bytes that begin with a fault for which they are passed over
+abbrev pub PassedOverBytes : ℕ → ℕ → UnsupportedBlock → List ℕ → Type 0
+PassedOverBytes type n why t =
+    (f : Fault) × (front : List ℕ) × (rest : List ℕ) × BodyFault type n f front
+    × (unsupported_by f ≡ Some why) × (length t ≡ n) × (t ≡ front ++ rest)
 
--- s begins with n bytes of content, of which this was read
-abbrev pub found_content : ℕ → List ℕ → Reading ℕ Content → Reading ℕ FoundContent
-found_content n s (Done content rest) = Done (Ok content) rest
-found_content n s (Faulty f rest) = passed_over n s f rest (unsupported_by f)
-found_content n s Incomplete = Incomplete
+-- content of this type and length, or as many bytes that are passed over
+abbrev pub FoundContentCode : ℕ → ℕ → FoundContent → List ℕ → Type 0
+FoundContentCode type n (Ok content) t = Body type n content t
+FoundContentCode type n (Err why) t = PassedOverBytes type n why t
 
--- the content of a block of this type and length
-unfoldable pub found_content_at : ℕ → ℕ → List ℕ → Reading ℕ FoundContent
-found_content_at type n s = found_content n s (body_at type n s)
+-- a fault of content for which it isn't passed over
+abbrev pub FoundContentFault : ℕ → ℕ → Fault → List ℕ → Type 0
+FoundContentFault type n f t = BodyFault type n f t × (unsupported_by f ≡ None)
 
 -- whether this is the last block, and its content
 pub record FoundBlock : Type 0 where
   pub is_last : Bool
   pub content : FoundContent
 
-unfoldable pub found_block_at : List ℕ → Reading ℕ FoundBlock
-found_block_at =
-    and_then block_header_at (λ h.
-    and_then (found_content_at h.type h.length) (λ content.
-    done (record { is_last = h.is_last; content = content })))
+-- a header, and content of its type and length
+abbrev pub FoundBlockCode : FoundBlock → List ℕ → Type 0
+FoundBlockCode b t =
+    (h : BlockHeader) × (header : List ℕ) × (body : List ℕ) × BlockHeaderCode h header
+    × FoundContentCode h.type h.length b.content body × (b.is_last ≡ h.is_last)
+    × (t ≡ header ++ body)
+
+-- the faults of the content: a header has none
+abbrev pub FoundBlockFault : Fault → List ℕ → Type 0
+FoundBlockFault = ThenFault BlockHeaderCode Never (λ h. FoundContentFault h.type h.length)
 
 -- ---- the blocks of a head
 
@@ -145,6 +171,109 @@ abbrev pub first_found : Option UnsupportedBlock → Option UnsupportedBlock
 first_found None next = next
 first_found (Some first) next = Some first
 
+-- the first thing of these blocks that isn't supported, where comments were read before them or not
+abbrev pub first_unsupported : Bool → List FoundBlock → Option UnsupportedBlock
+first_unsupported has_comments [] = None
+first_unsupported has_comments (b ∷ others) =
+    first_found (unsupported_in has_comments b.content)
+    (first_unsupported (has_comments || are_found_comments b.content) others)
+
+-- the last of these blocks is marked as last, and no other
+abbrev pub EndAtLast : FoundBlock → List FoundBlock → Type 0
+EndAtLast b [] = b.is_last ≡ true
+EndAtLast b (c ∷ others) = (b.is_last ≡ false) × EndAtLast c others
+
+-- the streaminfo, and the first thing that isn't supported of the blocks after it
+pub record FoundHead : Type 0 where
+  pub info : Streaminfo
+  pub unsupported : Option UnsupportedBlock
+
+-- the streaminfo comes first and nowhere else, and the last block is marked as last
+pub record IsFoundHead (h : FoundHead) (b : FoundBlock) (others : List FoundBlock) : Type 0 where
+  pub info : b.content ≡ Ok (Info h.info)
+  pub no_info : list_any (λ b. is_found_info b.content) others ≡ false
+  pub few : length others < max_blocks
+  pub ends : EndAtLast b others
+  pub unsupported : h.unsupported ≡ first_unsupported false others
+
+-- the marker and the blocks
+abbrev pub FoundHeadCode : FoundHead → List ℕ → Type 0
+FoundHeadCode h t =
+    (b : FoundBlock) × (others : List FoundBlock)
+    × (marker : List ℕ) × (first_block : List ℕ) × (other_blocks : List ℕ)
+    × Big 4 stream_marker marker × FoundBlockCode b first_block
+    × Each FoundBlockCode others other_blocks × IsFoundHead h b others
+    × (t ≡ marker ++ (first_block ++ other_blocks))
+
+-- the faults of the blocks after the streaminfo, up to a limit of blocks
+abbrev pub FoundBlocksFault : ℕ → Fault → List ℕ → Type 0
+FoundBlocksFault zero = Met TooManyBlocks
+FoundBlocksFault (suc most) =
+    ThenFault FoundBlockCode FoundBlockFault (λ b.
+    MeetsOr (is_found_info b.content) SecondStreaminfo (
+    when b.is_last then Never else FoundBlocksFault most))
+
+-- the first block must be a streaminfo; then the faults of the others
+abbrev pub FirstFoundFault : Bool → FoundContent → Fault → List ℕ → Type 0
+FirstFoundFault is_last (Ok (Info i)) = when is_last then Never else FoundBlocksFault 65535
+FirstFoundFault is_last _ = Met StreaminfoMissing
+
+-- the faults of the fields, in order
+abbrev pub FoundHeadFault : Fault → List ℕ → Type 0
+FoundHeadFault =
+    ThenFault Marker MarkerFault (λ m.
+    ThenFault FoundBlockCode FoundBlockFault (λ b. FirstFoundFault b.is_last b.content))
+
+-- ---- memory
+
+-- s begins with the header of an application or comment block of valid length, in a comment block
+-- followed by a vendor length that fits.
+abbrev pub NeedsMemory : List ℕ → Type 0
+NeedsMemory s =
+    (h : BlockHeader) × (code : List ℕ) × (content : List ℕ) × BlockHeaderCode h code
+    × MayRunOutOfMemory h.type h.length content × (s ≡ code ++ content)
+
+-- It does so after blocks.
+abbrev pub NeedsMemoryAfterBlocks : List ℕ → Type 0
+NeedsMemoryAfterBlocks s =
+    (blocks : List FoundBlock) × (before : List ℕ) × (m : List ℕ)
+    × Each FoundBlockCode blocks before × (s ≡ before ++ m) × NeedsMemory m
+
+-- It does so after the marker and blocks.
+abbrev pub HeadNeedsMemory : List ℕ → Type 0
+HeadNeedsMemory s =
+    (marker : List ℕ) × (m : List ℕ) × Marker stream_marker marker × (s ≡ marker ++ m)
+    × NeedsMemoryAfterBlocks m
+
+-- `OutOfMemory` is returned only where this holds of the bytes.
+abbrev pub OutOfMemoryOnlyWhere : {A : Type 0} → (List ℕ → Type 0) → Result A Error → State ℕ
+    → Type 0
+OutOfMemoryOnlyWhere P r old = IsOutOfMemory r → RemainingIsKnown old → P old.remaining
+
+-- ---- the readers of these codes, as the code is split
+
+-- of content with a fault all n bytes are passed over, if it is one of these
+abbrev pub passed_over : ℕ → List ℕ → Fault → List ℕ → Option UnsupportedBlock
+    → Reading ℕ FoundContent
+passed_over n s f rest None = Faulty f rest
+passed_over n s f rest (Some why) = bind (bytes_at n s) (λ bytes left. Done (Err why) left)
+
+-- s begins with n bytes of content, of which this was read
+abbrev pub found_content : ℕ → List ℕ → Reading ℕ Content → Reading ℕ FoundContent
+found_content n s (Done content rest) = Done (Ok content) rest
+found_content n s (Faulty f rest) = passed_over n s f rest (unsupported_by f)
+found_content n s Incomplete = Incomplete
+
+-- the content of a block of this type and length
+unfoldable pub found_content_at : ℕ → ℕ → List ℕ → Reading ℕ FoundContent
+found_content_at type n s = found_content n s (body_at type n s)
+
+unfoldable pub found_block_at : List ℕ → Reading ℕ FoundBlock
+found_block_at =
+    and_then block_header_at (λ h.
+    and_then (found_content_at h.type h.length) (λ content.
+    done (record { is_last = h.is_last; content = content })))
+
 -- what was seen so far, with one block more
 unfoldable pub seen_after : Seen → FoundContent → Seen
 seen_after seen content = record {
@@ -166,11 +295,6 @@ found_blocks_at (suc most) seen =
     if b.is_last then done (seen_after seen b.content).unsupported
     else found_blocks_at most (seen_after seen b.content)))
 
--- the streaminfo, and the first thing that isn't supported of the blocks after it
-pub record FoundHead : Type 0 where
-  pub info : Streaminfo
-  pub unsupported : Option UnsupportedBlock
-
 -- what is read after the first block, which has to be the streaminfo
 unfoldable pub after_first_found : Bool → FoundContent → List ℕ → Reading ℕ FoundHead
 after_first_found is_last (Ok (Info i)) =
@@ -183,35 +307,9 @@ unfoldable pub found_head_at : List ℕ → Reading ℕ FoundHead
 found_head_at =
     and_then marker_at (λ m. and_then found_block_at (λ b. after_first_found b.is_last b.content))
 
--- ---- memory
-
--- s begins with so many blocks, and then m is left
-abbrev pub BlocksBefore : ℕ → List ℕ → List ℕ → Type 0
-BlocksBefore zero s m = s ≡ m
-BlocksBefore (suc count) s m =
-    (b : FoundBlock) × (n : List ℕ) × (found_block_at s ≡ Done b n) × BlocksBefore count n m
-
--- s begins with the header of an application or comment block of valid length, in a comment block
--- followed by a vendor length that fits.
-abbrev pub NeedsMemory : List ℕ → Type 0
-NeedsMemory s =
-    (h : BlockHeader) × (code : List ℕ) × (content : List ℕ) × BlockHeaderCode h code
-    × MayRunOutOfMemory h.type h.length content × (s ≡ code ++ content)
-
--- It does so after blocks.
-abbrev pub NeedsMemoryAfterBlocks : List ℕ → Type 0
-NeedsMemoryAfterBlocks s =
-    (count : ℕ) × (m : List ℕ) × BlocksBefore count s m × NeedsMemory m
-
--- It does so after the marker and blocks.
-abbrev pub HeadNeedsMemory : List ℕ → Type 0
-HeadNeedsMemory s =
-    (m : List ℕ) × (marker_at s ≡ Done stream_marker m) × NeedsMemoryAfterBlocks m
-
--- `OutOfMemory` is returned only where this holds of the bytes.
-abbrev pub OutOfMemoryOnlyWhere : {A : Type 0} → (List ℕ → Type 0) → Result A Error → State ℕ
-    → Type 0
-OutOfMemoryOnlyWhere P r old = IsOutOfMemory r → RemainingIsKnown old → P old.remaining
+-- The reader accepts exactly the codes of heads, and reports exactly their faults.
+abbrev pub FoundHeadReads : Type 0
+FoundHeadReads = Reads ℕ FoundHead found_head_at FoundHeadCode FoundHeadFault
 
 -- ---- what the calls return
 
@@ -230,6 +328,33 @@ found_block_view found = record { is_last = found.0; content = found_content_vie
 -- a head, as it is returned
 abbrev pub found_head_view : StreamInfo × Option UnsupportedBlock → FoundHead
 found_head_view found = record { info = info_view found.0; unsupported = found.1 }
+
+-- what reading a head returns
+abbrev pub FoundHeadAnswer : Type 0
+FoundHeadAnswer = Result (StreamInfo × Option UnsupportedBlock) Error
+
+module _ (old : State ℕ) (result : FoundHeadAnswer) (new : State ℕ) where
+  -- What was consumed is such a head, and it is returned.
+  abbrev pub FoundHeadIsSound : Type 0
+  FoundHeadIsSound = CodeIsSound found_head_view result FoundHeadCode old new
+
+  -- Where the bytes begin with such a head, whatever follows, it is returned and alone consumed, or
+  -- memory or the source failed.
+  abbrev pub FoundHeadIsComplete : Type 0
+  FoundHeadIsComplete = CodeIsComplete found_head_view result FoundHeadCode old new
+
+  -- An Err is `OutOfMemory`, an `IoError`, or the name of a fault that the consumed bytes have.
+  abbrev pub FoundHeadFaultIsSound : Type 0
+  FoundHeadFaultIsSound = FaultIsSound result FoundHeadFault old new
+
+  -- Where the bytes begin with a fault it is named and alone consumed, or memory or the source
+  -- failed.
+  abbrev pub FoundHeadFaultIsComplete : Type 0
+  FoundHeadFaultIsComplete = FaultIsComplete result FoundHeadFault old new
+
+  -- Where they begin with neither the answer is an `IoError` or `OutOfMemory`.
+  abbrev pub FoundHeadElseIoError : Type 0
+  FoundHeadElseIoError = ElseIoError result FoundHeadCode FoundHeadFault old new
 
 -- A streaminfo is in its bounds.
 abbrev pub FoundHasBounds : {A : Type 0} → Found A → Type 0

@@ -21,7 +21,7 @@ use Rattle.std.specs.Prelude.{
   codes,
   if◌then◌else◌,
   length,
-  not,
+  map,
   Option,
   None,
   Some,
@@ -35,7 +35,6 @@ use Rattle.std.specs.Prelude.{
   Result,
 }
 use Rattle.std.specs.List.{sum_by}
-use Rattle.claxon.specs.BlockInfos.{BlockInfo}
 use Rattle.claxon.specs.DecodedFrame.{FrameValue, FrameWithHeader}
 use Rattle.claxon.specs.Error.{IsFault, IsIo}
 use Rattle.claxon.specs.Fault.{Fault}
@@ -57,38 +56,27 @@ use Rattle.claxon.specs.RunningReaders.{RunningReader}
 use Rattle.claxon_blocks.specs.Frames.{Is32BitFault, IsNotWhole}
 use Rattle.claxon_blocks.specs.Md5Verdict.{IsMd5Verdict}
 use Rattle.claxon_verify.specs.RightStream.{
-  AgreesWithInfo,
   AreInOrder,
-  DecodedFrames,
-  HasStrategy,
-  IsNext,
   IsRightStream,
   FitsBitDepth,
   bytes_of_frames,
   frame_duration,
-  number_after,
-  strategy_after,
 }
+use Rattle.claxon_verify.specs.Kept.{AreKept}
+use Rattle.claxon_verify.specs.Places.{FoundPart, list_of, places_of}
 use Rattle.claxon_verify.specs.StreamHead.{FoundHead, HeadNeedsMemory, found_head_at}
+use Rattle.claxon_blocks.specs.declared.frames.FrameError.{FrameError}
+use Rattle.claxon_verify.specs.declared.due.FoundFrame.{FoundFrame}
 use Rattle.claxon_command_line.specs.declared.progress.Progress.{Progress}
 use Rattle.claxon_verify.specs.declared.report.BlockSizes.{BlockSizes}
 use Rattle.claxon_verify.specs.declared.report.Damage.{Damage}
-use Rattle.claxon_verify.specs.declared.report.Damage.TheVariants.{
-  BitDepth,
-  BlockingStrategy,
-  Channels,
-  Fault as FaultDamage,
-  Missing,
-  Repeated,
-  SampleRate,
-  WideSample,
-}
+use Rattle.claxon_verify.specs.declared.report.Damage.TheVariants.{Fault as FaultDamage}
 use Rattle.claxon_verify.specs.declared.report.Found.{Found}
-use Rattle.claxon_verify.specs.declared.report.Gap.{Gap}
 use Rattle.claxon_md5.specs.Md5.{md5}
 use Rattle.claxon_blocks.specs.declared.md5_verdict.Md5Verdict.{Md5Verdict}
 use Rattle.claxon_blocks.specs.declared.md5_verdict.Md5Verdict.TheVariants.{NotComputed, Wrong}
 use Rattle.claxon_verify.specs.declared.report.Place.{Place}
+use Rattle.claxon_verify.specs.declared.report.Places.{Places}
 use Rattle.claxon_verify.specs.declared.report.Report.{Report}
 use Rattle.claxon_verify.specs.declared.report.UnsupportedBlock.{UnsupportedBlock}
 use Rattle.claxon_verify.specs.declared.BytesRead.{BytesRead}
@@ -163,121 +151,94 @@ changed_size (first ∷ frames) =
     if first.info.is_variable then None
     else sizes_from (frame_duration first) (first ∷ frames)
 
--- ---- the end, and the first thing that is wrong. `failed` says that a read of the source failed.
+-- ---- the end. `failed` says that a read of the source failed.
 
 -- Fewer than two bytes are left, or a frame that isn't whole.
 abbrev pub EndsAt : Type 0 → Option StreamFormat → Bool → List ℕ → Type 0
 EndsAt failed stream false rest = length rest < 2
 EndsAt failed stream true rest = IsNotWhole stream rest ⊎ failed
 
--- The error names the fault that m begins with, or is an `IoError` in a frame that isn't whole.
-abbrev pub IsFaultAt : Type 0 → Option StreamFormat → List ℕ → Error → Type 0
-IsFaultAt failed stream m e =
-    ((f : Fault) × IsFault f e × BeginsWith (FrameBytesFault stream f) m)
-    ⊎ (IsIo e × (IsNotWhole stream m ⊎ failed))
+-- ---- what was found
 
--- Frames or samples are missing before the frame: its number is greater.
-pub record IsMissing (number : ℕ) (frame : BlockInfo) (gap : Gap) : Type 0 where
-  pub count : frame.number ≡ number + gap.count
-  pub some : 0 < gap.count
-  pub unit : gap.is_variable ≡ frame.is_variable
+-- This is known of the frame: its header, how many samples of each channel it has, and whether
+-- these fit in the bit depth of the streaminfo.
+pub record FrameIs (info : Streaminfo) (frame : FrameValue) (found : FoundFrame) : Type 0 where
+  pub header : found.header ≡ frame.info
+  pub duration : found.duration ≡ frame_duration frame
+  pub fits : IsTrue found.fits ↔ FitsBitDepth info frame
 
--- They are there twice, from the frame on: its number is less.
-pub record IsRepeated (number : ℕ) (frame : BlockInfo) (gap : Gap) : Type 0 where
-  pub count : number ≡ frame.number + gap.count
-  pub some : 0 < gap.count
-  pub unit : gap.is_variable ≡ frame.is_variable
+-- This is known of the frame or fault with which m begins. Of a fault it is the error that names
+-- it, and says exactly where it is so that the frame is refused because its samples have 32 bits.
+abbrev pub PartIs : Streaminfo → FrameOrFault → List ℕ → Result FoundFrame FrameError → Type 0
+PartIs info (Ok frame) m (Ok found) = FrameIs info frame found
+PartIs info (Err f) m (Err e) = IsFault f e.error × (IsTrue e.is_32_bit ↔ Is32BitFault m e.error)
+PartIs info _ m _ = ⊥
 
--- The frame has this number, or this is how it differs.
-abbrev pub IsNumbered : ℕ → BlockInfo → Option Damage → Type 0
-IsNumbered number frame None = frame.number ≡ number
-IsNumbered number frame (Some (Missing gap)) = IsMissing number frame gap
-IsNumbered number frame (Some (Repeated gap)) = IsRepeated number frame gap
-IsNumbered number frame (Some _) = ⊥
+-- s, which begins at the byte `start` of the stream, is these frames and faults and then r, and
+-- this was found: where each begins, and what it is.
+abbrev pub PartsFound : Option StreamFormat → Streaminfo → ℕ → List ℕ → List FrameOrFault → List ℕ
+    → List FoundPart → Type 0
+PartsFound stream info start s [] r found = (s ≡ r) × (found ≡ [])
+PartsFound stream info start s (part ∷ parts) r found =
+    (t : List ℕ) × (m : List ℕ) × (here : FoundPart) × (more : List FoundPart)
+    × FrameOrFaultBytes stream part t × (s ≡ t ++ m) × (here.start ≡ start % 2 ^ 64)
+    × PartIs info part s here.what
+    × PartsFound stream info (start + length t) m parts r more × (found ≡ here ∷ more)
 
--- The frame isn't the next one, and this is why: of its channels, its bit depth, its sample rate,
--- its blocking strategy, its coded number and its samples the first that isn't right.
-abbrev pub IsNotNext : Streaminfo → Option Bool → ℕ → FrameValue → Damage → Type 0
-IsNotNext info strategy number frame (FaultDamage e) = ⊥
-IsNotNext info strategy number frame (Channels n) =
-    (n ≡ frame.info.channels) × (n ≢ info.channels)
-IsNotNext info strategy number frame (BitDepth n) =
-    (frame.info.channels ≡ info.channels) × (n ≡ frame.info.bit_depth) × (n ≢ info.bit_depth)
-IsNotNext info strategy number frame (SampleRate n) =
-    (frame.info.channels ≡ info.channels) × (frame.info.bit_depth ≡ info.bit_depth)
-    × (frame.info.sample_rate ≡ Some n) × (n ≢ info.rate)
-IsNotNext info strategy number frame BlockingStrategy =
-    AgreesWithInfo info frame.info × (strategy ≡ Some (not frame.info.is_variable))
-IsNotNext info strategy number frame (Missing gap) =
-    AgreesWithInfo info frame.info × HasStrategy strategy frame.info
-    × IsMissing number frame.info gap
-IsNotNext info strategy number frame (Repeated gap) =
-    AgreesWithInfo info frame.info × HasStrategy strategy frame.info
-    × IsRepeated number frame.info gap
-IsNotNext info strategy number frame WideSample =
-    AgreesWithInfo info frame.info × HasStrategy strategy frame.info
-    × (frame.info.number ≡ number) × (FitsBitDepth info frame → ⊥)
-
--- It is the next one, or this is why it isn't.
-abbrev pub IsJudged : Streaminfo → Option Bool → ℕ → FrameValue → Option Damage → Type 0
-IsJudged info strategy number frame None = IsNext info strategy number frame
-IsJudged info strategy number frame (Some damage) = IsNotNext info strategy number frame damage
-
--- After these frames the bytes begin with what is wrong. It says of a fault exactly where it is so
--- that the frame is refused because its samples have 32 bits.
-abbrev pub IsDamageAt : Type 0 → Option StreamFormat → Streaminfo → List FrameValue → List ℕ
-    → Damage → Type 0
-IsDamageAt failed stream info before m (FaultDamage e) =
-    IsFaultAt failed stream m e.error × (IsTrue e.is_32_bit ↔ Is32BitFault m e.error)
-IsDamageAt failed stream info before m damage =
-    (frame : FrameValue) × BeginsWith (FrameWithHeader stream frame) m
-    × IsNotNext info (strategy_after before) (number_after before) frame damage
-
--- It stands in s, which begins at the byte `start` of the stream, after just frames in order.
-pub record IsFirst (failed : Type 0) (stream : Option StreamFormat) (info : Streaminfo) (start : ℕ)
-    (s : List ℕ) (place : Place) : Type 0 where
-  pub front : List ℕ
-  pub before : List FrameValue
-  pub left : List ℕ
-  pub joined : s ≡ front ++ left
-  pub frames_are : DecodedFrames stream s before left
-  pub in_order : AreInOrder info before
-  pub byte_is : place.start_byte ≡ (start + length front) % 2 ^ 64
-  pub sample_is : place.start_sample ≡ sum_by frame_duration before
-  pub damage : IsDamageAt failed stream info before left place.damage
+-- At the end nothing more was found, or a frame that isn't whole, or a read failed there.
+abbrev pub LastFound : Bool → ℕ → List ℕ → List FoundPart → Type 0
+LastFound false start rest found = found ≡ []
+LastFound true start rest found =
+    (here : FoundPart) × (e : FrameError) × (found ≡ here ∷ []) × (here.start ≡ start % 2 ^ 64)
+    × (here.what ≡ Err e) × IsIo e.error × (IsTrue e.is_32_bit ↔ Is32BitFault rest e.error)
 
 -- There are just frames, in order.
 abbrev pub AreRight : Streaminfo → List FrameOrFault → Type 0
 AreRight info parts = (sum_by fault_count_of parts ≡ 0) × AreInOrder info (frames_of parts)
 
--- There is a first place where something is wrong.
-abbrev pub FirstIs : Type 0 → Option StreamFormat → Streaminfo → ℕ → List ℕ → List FrameOrFault
-    → Bool → Option Place → Type 0
-FirstIs failed stream info start s parts is_cut None = (is_cut ≡ false) × AreRight info parts
-FirstIs failed stream info start s parts is_cut (Some place) =
-    IsFirst failed stream info start s place
-
--- what was counted: frames, samples of each channel, and the first place; and the block sizes,
--- where a fixed one changes
+-- what was counted: frames, samples of each channel; the places that are kept and how many are left
+-- out; and the block sizes, where a fixed one changes
 pub record Counts : Type 0 where
   pub frames : ℕ
   pub samples : ℕ
   pub first : Option Place
+  pub more : List Place
+  pub left_out : ℕ
   pub sizes : Option BlockSizes
 
 -- s, which begins at the byte `start` of the stream, is frames and faults up to the end, and these
--- were counted.
+-- were counted. The places are those of what was found. Where a frame isn't whole at the end, it
+-- isn't known how many of its bytes were read.
 pub record Counted (failed : Type 0) (stream : Option StreamFormat) (info : Streaminfo) (start : ℕ)
     (s : List ℕ) (counts : Counts) : Type 0 where
   pub parts : List FrameOrFault
   pub is_cut : Bool
+  pub front : List ℕ
   pub rest : List ℕ
+  pub joined : s ≡ front ++ rest
   pub parts_are : FramesAndFaults stream s parts rest
   pub ends : EndsAt failed stream is_cut rest
+  pub fit : CanBeCounted parts
   pub frames : counts.frames ≡ sum_by frame_count_of parts
   pub samples : counts.samples ≡ sum_by sample_count_of parts
-  pub first : FirstIs failed stream info start s parts is_cut counts.first
   pub sizes : counts.sizes ≡ changed_size (frames_of parts)
+  pub found : List FoundPart
+  pub last : List FoundPart
+  pub found_are : PartsFound stream info start s parts rest found
+  pub last_is : LastFound is_cut (start + length front) rest last
+  pub end : ℕ
+  pub end_is : is_cut ≡ false → end ≡ (start + length s) % 2 ^ 64
+  pub kept : AreKept (places_of info end (found ++ last)) counts.first counts.more counts.left_out
+
+-- how many places there are, kept and left out
+abbrev pub place_count : {A : Type 0} → Places A → ℕ
+place_count places = length (list_of places.first ++ places.more.items) + places.left_out
+
+-- all places
+abbrev pub all_places : {failed : Type 0} {stream : Option StreamFormat} {info : Streaminfo}
+    {start : ℕ} {s : List ℕ} {counts : Counts} → Counted failed stream info start s counts
+    → List Place
+all_places {info = info} counted = places_of info counted.end (counted.found ++ counted.last)
 
 -- ---- a whole stream
 
@@ -309,6 +270,8 @@ report_view report = record {
     frames = report.found.frames;
     samples = report.found.samples;
     first = report.found.places.first;
+    more = report.found.places.more.items;
+    left_out = report.found.places.left_out;
     sizes = report.found.notes.changed_block_size;
   };
   md5 = report.md5;
@@ -400,25 +363,33 @@ StopsCounting stream old e =
 
 -- ---- the contract of the call
 
--- Both are the same damage. Of two faults nothing but that is compared.
-abbrev pub SameDamage : Damage → Damage → Type 0
-SameDamage (FaultDamage a) (FaultDamage b) = a.is_32_bit ≡ b.is_32_bit
-SameDamage (Channels a) (Channels b) = a ≡ b
-SameDamage (BitDepth a) (BitDepth b) = a ≡ b
-SameDamage (SampleRate a) (SampleRate b) = a ≡ b
-SameDamage BlockingStrategy BlockingStrategy = Unit {0}
-SameDamage (Missing a) (Missing b) = a ≡ b
-SameDamage (Repeated a) (Repeated b) = a ≡ b
-SameDamage WideSample WideSample = Unit {0}
-SameDamage _ _ = ⊥
+-- what is wrong, but for the error that names it
+abbrev pub unnamed_damage : Damage → Damage
+unnamed_damage (FaultDamage e) = FaultDamage (record {
+  error = OutOfMemory;
+  is_32_bit = e.is_32_bit;
+  first = record { seen = 0; bytes = []; others = 0 };
+})
+unnamed_damage damage = damage
 
--- Both begin at the same place, with the same damage, or there is none.
-abbrev pub SameFirst : Option Place → Option Place → Type 0
-SameFirst None None = Unit {0}
-SameFirst (Some a) (Some b) =
-    (a.start_byte ≡ b.start_byte) × (a.start_sample ≡ b.start_sample)
-    × SameDamage a.damage b.damage
-SameFirst _ _ = ⊥
+-- a place, but for its end and the error that names what is wrong
+abbrev pub unnamed : Place → Place
+unnamed place = record {
+  start_byte = place.start_byte;
+  end_byte = 0;
+  start_sample = place.start_sample;
+  end_sample = place.end_sample;
+  damage = unnamed_damage place.damage;
+}
+
+-- Both are of the same places, of which each may keep others.
+pub record SamePlaces (a b : Counts) : Type 0 where
+  pub left_of_a : List Place
+  pub left_of_b : List Place
+  pub same : map unnamed (list_of a.first ++ (a.more ++ left_of_a))
+      ≡ map unnamed (list_of b.first ++ (b.more ++ left_of_b))
+  pub left_out_of_a : a.left_out ≡ length left_of_a % 2 ^ 64
+  pub left_out_of_b : b.left_out ≡ length left_of_b % 2 ^ 64
 
 -- Both say the same.
 pub record SameReport (a b : ReportValue) : Type 0 where
@@ -426,7 +397,7 @@ pub record SameReport (a b : ReportValue) : Type 0 where
   pub unsupported : a.unsupported ≡ b.unsupported
   pub frames : a.counts.frames ≡ b.counts.frames
   pub samples : a.counts.samples ≡ b.counts.samples
-  pub first : SameFirst a.counts.first b.counts.first
+  pub places : SamePlaces a.counts b.counts
   pub sizes : a.counts.sizes ≡ b.counts.sizes
   pub md5_is : a.md5 ≡ b.md5
   pub sum_is : a.sum ≡ b.sum
@@ -502,6 +473,15 @@ module _ {A : Type 0} (computes_md5 : Bool) (old : State ℕ) (result : Result (
     pub fault : VerifyFaultIsSound old result new
     pub named : VerifyHeadFaultIsComplete old result new
     pub memory : VerifyOutOfMemoryAfterHeader old result new
+
+-- No more places are kept after the first, and with those that are left out they are all.
+abbrev pub PlacesAreCounted : {A : Type 0} → ℕ → Bool → State ℕ → Result (Report A) Error
+    → State ℕ → Type 0
+PlacesAreCounted more computes_md5 old result new =
+    IfOk result (λ report. (length report.found.places.more.items ≤ more)
+    × (RemainingIsKnown old → (verified : IsVerified (ReadFailedIn old new) computes_md5
+    old.remaining (report_view report)) × (place_count report.found.places % 2 ^ 64
+    ≡ length (all_places verified.counted) % 2 ^ 64)))
 
 -- Nothing is written where the line has no label, or the streaminfo doesn't say how many samples
 -- there are.

@@ -1,29 +1,5 @@
 -- What is found in a stream, frame by frame.
-use Rattle.std.specs.Prelude.{
-  ◌≡◌,
-  ◌≢◌,
-  ◌==◌,
-  ◌⊎◌,
-  ◌↔◌,
-  ℕ,
-  ◌<◌,
-  ◌≤◌,
-  ◌+◌,
-  ◌^◌,
-  Bool,
-  true,
-  if◌then◌else◌,
-  is_some,
-  length,
-  List,
-  [],
-  ◌∷◌,
-  ◌++◌,
-  Option,
-  None,
-  Some,
-  IsSomeAnd,
-}
+use Rattle.std.specs.Prelude.{◌≡◌, ◌≢◌, ◌==◌, ◌⊎◌, ℕ, ◌<◌, ◌≤◌, ◌+◌, ◌^◌, Bool, if◌then◌else◌, List, [], ◌∷◌, ◌++◌, Option, None, Some}
 use Rattle.std.specs.IoError.{error_kind}
 use Rattle.std.specs.declared.io.ErrorKind.TheVariants.{UnexpectedEof}
 use Rattle.claxon.specs.Codes.{when◌then◌else◌}
@@ -39,75 +15,29 @@ use Rattle.claxon.specs.State.{State, RemainingIsKnown}
 use Rattle.claxon.specs.Streams.{duration_of}
 use Rattle.claxon_blocks.specs.HashBlock.{HashesToo}
 use Rattle.claxon_blocks.specs.Md5Verdict.{HasHashedBytes}
+use Rattle.claxon_verify.specs.Kept.{AreKept, Keeps, KeepsPlaces}
+use Rattle.claxon_verify.specs.Places.{begun_scan, damaged, list_of, places_at, scan_frame}
 use Rattle.claxon_verify.specs.RightStream.{bytes_of_frames, frame_duration}
 use Rattle.claxon_verify.specs.Verify.{
   Counted,
   Counts,
-  IsJudged,
+  FrameIs,
   IsTooMany,
   changed_size,
   frames_of,
 }
 use Rattle.claxon_blocks.specs.declared.frames.FrameError.{FrameError}
+use Rattle.claxon_verify.specs.declared.due.FoundFrame.{FoundFrame}
 use Rattle.claxon_verify.specs.declared.report.BlockSizes.{BlockSizes}
-use Rattle.claxon_verify.specs.declared.report.Damage.{Damage}
-use Rattle.claxon_verify.specs.declared.report.Damage.TheVariants.{
-  BitDepth,
-  BlockingStrategy,
-  Channels,
-  Fault,
-  SampleRate,
-  WideSample,
-}
+use Rattle.claxon_verify.specs.declared.report.Damage.TheVariants.{Fault}
 use Rattle.claxon_verify.specs.declared.report.Place.{Place}
-use Rattle.claxon_verify.specs.declared.report.Places.{Places}
-use Rattle.claxon_verify.specs.declared.order.Order.{Order}
-use Rattle.claxon_verify.specs.declared.places.PlacesSoFar.{PlacesSoFar}
 use Rattle.claxon_verify.specs.declared.sizes.SizesSoFar.{SizesSoFar}
 use Rattle.claxon_verify.specs.declared.walk.Walk.{Walk}
-
--- ---- the first place
 
 -- the first of two, if there is one, or the second
 abbrev pub or_else : {A : Type 0} → Option A → Option A → Option A
 or_else None second = second
 or_else (Some first) second = Some first
-
--- the first place, which may be the last one
-abbrev pub first_place : {A : Type 0} → PlacesSoFar A → Option Place
-first_place places = or_else places.ended.first places.last
-
--- Both begin alike, with the same damage. One may be longer.
-pub record BeginAlike (a b : Place) : Type 0 where
-  pub byte : a.start_byte ≡ b.start_byte
-  pub sample : a.start_sample ≡ b.start_sample
-  pub damage : a.damage ≡ b.damage
-
--- There is none, or the first place begins as before.
-abbrev pub KeepsFirstPlace : Option Place → Option Place → Type 0
-KeepsFirstPlace None new = new ≡ None
-KeepsFirstPlace (Some old) new = IsSomeAnd new (λ first. BeginAlike first old)
-
--- The place begins at this byte and sample, with this damage.
-pub record PlaceBegins (byte sample : ℕ) (damage : Damage) (place : Place) : Type 0 where
-  pub byte_is : place.start_byte ≡ byte
-  pub sample_is : place.start_sample ≡ sample
-  pub damage_is : place.damage ≡ damage
-
--- Damage at this byte and sample is the first place, if there was none before.
-abbrev pub FirstBecomes : Option Damage → ℕ → ℕ → Option Place → Option Place → Type 0
-FirstBecomes None byte sample old new = KeepsFirstPlace old new
-FirstBecomes (Some damage) byte sample None new =
-    (place : Place) × (new ≡ Some place) × PlaceBegins byte sample damage place
-FirstBecomes (Some damage) byte sample (Some old) new = KeepsFirstPlace (Some old) new
-
--- One place more is there, which becomes the first if there was none.
-abbrev pub AddsPlace : {A : Type 0} → Place → PlacesSoFar A → PlacesSoFar A → Type 0
-AddsPlace place old new =
-    FirstBecomes (Some place.damage) place.start_byte place.start_sample (first_place old)
-    (first_place new)
-
--- ---- the number of places
 
 -- A read of the source failed: the error isn't one of the bytes.
 abbrev pub IsFailedRead : Error → Type 0
@@ -115,73 +45,6 @@ IsFailedRead (IoError cause) = error_kind cause ≢ UnexpectedEof
 IsFailedRead (FormatError text) = ⊥
 IsFailedRead (Unsupported text) = ⊥
 IsFailedRead OutOfMemory = ⊥
-
--- Damage goes on: faults, where no read failed, or frames with the same damage.
-abbrev pub DamageGoesOn : Damage → Damage → Type 0
-DamageGoesOn (Fault a) (Fault b) = IsFailedRead b.error → ⊥
-DamageGoesOn (Channels a) (Channels b) = a ≡ b
-DamageGoesOn (BitDepth a) (BitDepth b) = a ≡ b
-DamageGoesOn (SampleRate a) (SampleRate b) = a ≡ b
-DamageGoesOn BlockingStrategy BlockingStrategy = Unit {0}
-DamageGoesOn WideSample WideSample = Unit {0}
-DamageGoesOn _ _ = ⊥
-
--- A place goes on in the next one, which begins where it ends, and both are one.
-abbrev pub PlaceGoesOn : Place → Place → Type 0
-PlaceGoesOn last next =
-    (last.end_byte ≡ next.start_byte) × DamageGoesOn last.damage next.damage
-
--- The last place, if there is one, goes on in this one.
-abbrev pub LastGoesOn : {A : Type 0} → PlacesSoFar A → Place → Type 0
-LastGoesOn places place = IsSomeAnd places.last (λ last. PlaceGoesOn last place)
-
--- how many there are, kept and left out
-abbrev pub place_count : {A : Type 0} → Places A → ℕ
-place_count places =
-    (if is_some places.first then 1 else 0) + length places.more.items + places.left_out
-
--- how many there are so far
-abbrev pub count_so_far : {A : Type 0} → PlacesSoFar A → ℕ
-count_so_far places = place_count places.ended + (if is_some places.last then 1 else 0)
-
--- Those that are left out can be counted.
-abbrev pub CanBeLeftOut : {A : Type 0} → Places A → Type 0
-CanBeLeftOut places = places.left_out + 1 < 2 ^ 64
-
--- The next place goes on as it would after this one.
-abbrev pub GoesOnAs : {A : Type 0} → Place → PlacesSoFar A → Type 0
-GoesOnAs place places = (next : Place) → LastGoesOn places next ↔ PlaceGoesOn place next
-
--- One place more is counted, unless the last one goes on in it.
-pub record CountsPlace {A : Type 0} (place : Place) (old new : PlacesSoFar A) : Type 0 where
-  pub counted : (LastGoesOn old place × (count_so_far new ≡ count_so_far old))
-      ⊎ ((LastGoesOn old place → ⊥)
-      × (CanBeLeftOut old.ended → count_so_far new ≡ count_so_far old + 1))
-  pub goes_on : GoesOnAs place new
-  pub some : is_some new.last ≡ true
-
--- As many are counted, and the next place goes on as before.
-pub record KeepsCount {A : Type 0} (old new : PlacesSoFar A) : Type 0 where
-  pub count : count_so_far new ≡ count_so_far old
-  pub goes_on : (next : Place) → LastGoesOn new next ↔ LastGoesOn old next
-
--- Damage at this byte is one place more, or none where it belongs to the last one.
-abbrev pub CountsDamage : {A : Type 0} → Option Damage → ℕ → PlacesSoFar A → PlacesSoFar A → Type 0
-CountsDamage None byte old new = KeepsCount old new
-CountsDamage (Some damage) byte old new =
-    KeepsCount old new
-    ⊎ ((place : Place) × (place.start_byte ≡ byte) × (place.damage ≡ damage)
-    × CountsPlace place old new)
-
--- ---- the order
-
--- After a frame of this duration the number is its own and one more, or and the number of its
--- samples where the block size is variable, if that fits. The blocking strategy stays, and is that
--- of the first frame.
-pub record GoesOn (duration : ℕ) (frame : BlockInfo) (old new : Order) : Type 0 where
-  pub strategy : new.is_variable ≡ or_else old.is_variable (Some frame.is_variable)
-  pub number : frame.number + (if frame.is_variable then duration else 1) < 2 ^ 64
-      → new.number ≡ frame.number + (if frame.is_variable then duration else 1)
 
 -- ---- block sizes
 
@@ -213,18 +76,20 @@ AddsSize header duration old new =
 
 -- ---- the walk
 
--- Nothing was found so far.
-pub record BeginsWalk {A : Type 0} (computes_md5 : Bool) (walk : Walk A) : Type 0 where
+-- Nothing was found so far, and so many places are kept after the first.
+pub record BeginsWalk {A : Type 0} (computes_md5 : Bool) (more : ℕ) (walk : Walk A) : Type 0 where
   pub frames_are : walk.frames ≡ 0
   pub samples_are : walk.samples ≡ 0
-  pub no_place : first_place walk.places ≡ None
-  pub no_count : count_so_far walk.places ≡ 0
-  pub none_goes_on : (next : Place) → LastGoesOn walk.places next → ⊥
-  pub no_strategy : walk.order.is_variable ≡ None
+  pub scan_is : walk.scan ≡ begun_scan
+  pub keeps : Keeps [] walk.places
+  pub more_is : walk.places.more ≡ more
+  pub none : walk.places.places.more.items ≡ []
   pub no_size : AreSizesOf [] walk.sizes
-  pub number_is : walk.order.number ≡ 0
-  pub sample_is : walk.sample ≡ 0
   pub hasher : HasHashedBytes computes_md5 [] walk.md5
+
+-- This is known of a decoded frame.
+abbrev pub IsFound : {B : Type 0} → Streaminfo → DecodedFrame B → FoundFrame → Type 0
+IsFound info frame found = FrameIs info (decoded_view frame) found
 
 -- One frame more, which begins at this byte, was found.
 pub record AddsFrame {A B : Type 0} (info : Streaminfo) (frame : DecodedFrame B) (byte : ℕ)
@@ -233,14 +98,11 @@ pub record AddsFrame {A B : Type 0} (info : Streaminfo) (frame : DecodedFrame B)
   pub samples_are : new.samples ≡ old.samples + duration_of frame.block.channels
   pub frames_fit : new.frames < 2 ^ 64
   pub samples_fit : new.samples < 2 ^ 64
-  pub damage : Option Damage
-  pub is_judged : IsJudged info old.order.is_variable old.order.number (decoded_view frame) damage
-  pub first : FirstBecomes damage byte old.sample (first_place old.places) (first_place new.places)
-  pub counts : CountsDamage damage byte old.places new.places
-  pub goes_on : damage ≡ None
-      → GoesOn (duration_of frame.block.channels) frame.info old.order new.order
-  pub sample_is : damage ≡ None → old.sample + duration_of frame.block.channels < 2 ^ 64
-      → new.sample ≡ old.sample + duration_of frame.block.channels
+  pub found : FoundFrame
+  pub is_found : IsFound info frame found
+  pub scan_is : new.scan ≡ (scan_frame info byte found old.scan).scan
+  pub places : KeepsPlaces (list_of (scan_frame info byte found old.scan).place) old.places
+      new.places
   pub sizes : AddsSize frame.info (duration_of frame.block.channels) old.sizes new.sizes
   pub hashes : HashesToo info.bit_depth frame.block old.md5 new.md5
 
@@ -249,21 +111,19 @@ pub record AddsFault {A : Type 0} (fault : FrameError) (byte end : ℕ) (old new
   where
     pub frames_are : new.frames ≡ old.frames
     pub samples_are : new.samples ≡ old.samples
-    pub first : FirstBecomes (Some (Fault fault)) byte old.sample (first_place old.places) (
-        first_place new.places)
-    pub counts : (place : Place) × (place.start_byte ≡ byte) × (place.end_byte ≡ end)
-        × (place.damage ≡ Fault fault) × CountsPlace place old.places new.places
-    pub order_is : new.order ≡ old.order
-    pub sample_is : new.sample ≡ old.sample
+    pub scan_is : new.scan ≡ damaged byte (Fault fault) old.scan
+    pub places_are : new.places ≡ old.places
+    pub end_is : new.end ≡ end
     pub sizes_are : new.sizes ≡ old.sizes
     pub md5_is : new.md5 ≡ old.md5
 
--- The walk is at its end: what was counted and hashed is as before.
-pub record EndsWalk {A : Type 0} (old new : Walk A) : Type 0 where
+-- The walk is at its end, at this byte: all else is as before.
+pub record EndsWalk {A : Type 0} (end : ℕ) (old new : Walk A) : Type 0 where
   pub frames_are : new.frames ≡ old.frames
   pub samples_are : new.samples ≡ old.samples
-  pub first : KeepsFirstPlace (first_place old.places) (first_place new.places)
-  pub count : count_so_far new.places ≡ count_so_far old.places
+  pub scan_is : new.scan ≡ old.scan
+  pub places_are : new.places ≡ old.places
+  pub end_is : new.end ≡ end
   pub sizes_are : new.sizes ≡ old.sizes
   pub md5_is : new.md5 ≡ old.md5
 
@@ -275,21 +135,22 @@ ExceedsCount frame walk e =
 
 -- ---- a walk to the end
 
--- what was counted on a walk
-abbrev pub counts_of : {A : Type 0} → Walk A → Counts
-counts_of walk = record {
-  frames = walk.frames;
-  samples = walk.samples;
-  first = first_place walk.places;
-  sizes = walk.sizes.changed;
-}
+-- The walk was counted so: its places are these, and those that end with the stream.
+pub record IsCounted {A : Type 0} (walk : Walk A) (samples : ℕ) (counts : Counts) : Type 0 where
+  pub frames_are : counts.frames ≡ walk.frames
+  pub samples_are : counts.samples ≡ walk.samples
+  pub kept : (all : List Place) → Keeps all walk.places
+      → AreKept (places_at walk.end samples (record { scan = walk.scan; places = all }))
+      counts.first counts.more counts.left_out
+  pub sizes_are : counts.sizes ≡ walk.sizes.changed
 
--- The remaining bytes, which begin at the byte `start` of the stream, were counted, and the samples
--- of their frames were hashed.
+-- The remaining bytes, which begin at the byte `start` of the stream, are counted so, and the
+-- samples of their frames were hashed.
 abbrev pub WalksToEnd : {A : Type 0} → Bool → Option StreamFormat → Streaminfo → ℕ → State ℕ
     → State ℕ → Walk A → Type 0
 WalksToEnd computes_md5 stream info start old new walk =
     RemainingIsKnown old
-    → (counted : Counted (ReadFailedIn old new) stream info start old.remaining (counts_of walk))
+    → (counts : Counts) → IsCounted walk info.samples counts
+    → (counted : Counted (ReadFailedIn old new) stream info start old.remaining counts)
     × HasHashedBytes computes_md5 (bytes_of_frames info.bit_depth (frames_of counted.parts))
     walk.md5

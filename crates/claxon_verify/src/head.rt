@@ -8,6 +8,12 @@ ghost use Rattle.claxon.specs.read.Heads.{marker_at};
 ghost use Rattle.claxon.specs.read.Metadata.{block_header_at};
 ghost use Rattle.claxon_verify.specs.StreamHead.{
   FoundHasBounds,
+  FoundHeadElseIoError,
+  FoundHeadFaultIsComplete,
+  FoundHeadFaultIsSound,
+  FoundHeadIsComplete,
+  FoundHeadIsSound,
+  FoundHeadReads,
   HeadNeedsMemory,
   IsInfoOf,
   IsErrorOfBytes,
@@ -78,6 +84,32 @@ struct Seen {
 ///
 /// Those of `claxon::read_head`, but for what is passed over.
 pub(crate) fn read_head<R: ReadBytes, A: Allocator + Copy>(
+    alloc: A,
+    input: &mut RunningReader<R, BytesRead>,
+) -> Result<(StreamInfo, Option<UnsupportedBlock>)>
+    // What it returns, and consumes.
+    ensures is_sound { FoundHeadIsSound (counted_bytes R.source input.old) result
+        (counted_bytes R.source input.new) }
+    ensures is_complete { FoundHeadIsComplete (counted_bytes R.source input.old) result
+        (counted_bytes R.source input.new) }
+    ensures fault_is_sound { FoundHeadFaultIsSound (counted_bytes R.source input.old) result
+        (counted_bytes R.source input.new) }
+    ensures fault_is_complete { FoundHeadFaultIsComplete (counted_bytes R.source input.old) result
+        (counted_bytes R.source input.new) }
+    ensures else_io_error { FoundHeadElseIoError (counted_bytes R.source input.old) result
+        (counted_bytes R.source input.new) }
+    // What holds of it, and what callers' proofs need.
+    ensures has_bounds { IfOk result (λ found. HasBounds found.0) }
+    ensures out_of_memory { OutOfMemoryOnlyWhere HeadNeedsMemory result
+        (counted_bytes R.source input.old) }
+    ensures gives { GivesOrOutOfMemory found_head_view result found_head_at
+        (counted_bytes R.source input.old) (counted_bytes R.source input.new) }
+{
+    read_head_exact(alloc, input)
+}
+
+// `read_head`, with its exact clause.
+fn read_head_exact<R: ReadBytes, A: Allocator + Copy>(
     alloc: A,
     input: &mut RunningReader<R, BytesRead>,
 ) -> Result<(StreamInfo, Option<UnsupportedBlock>)>
@@ -300,3 +332,8 @@ fn unsupported_by(error: &Error) -> Option<UnsupportedBlock>
         _ => None,
     }
 }
+
+/// The reader of heads that clauses cite accepts exactly their codes, and reports exactly their faults.
+pub fn found_head_reads()
+    ensures found_head_reads { FoundHeadReads }
+{}

@@ -1,15 +1,17 @@
 //! Whether a whole stream is right: its frames, their order, and the MD5 sum of their samples.
 #![tactic(auto)]
 
-ghost use Rattle.std.specs.Prelude.{◌≡◌, ◌↔◌, ◌<◌, ◌≤◌, IfErr, IfOk, IsTrue, None, Some};
+ghost use Rattle.std.specs.Prelude.{◌≡◌, ◌↔◌, ◌≤◌, IfErr, IfOk, IsTrue, List, None, Some, length};
 ghost use Rattle.claxon.specs.Error.{is_io};
 ghost use Rattle.claxon.specs.FrameReader.{stream_with};
 ghost use Rattle.claxon.specs.MetadataBlock.{info_view, or_zero};
 ghost use Rattle.claxon.specs.State.{bytes_in};
 ghost use Rattle.claxon_command_line.specs.Progress.{StaysQuiet};
-ghost use Rattle.claxon_verify.specs.Places.{PlacesAreCounted, WalksPlaces};
+ghost use Rattle.claxon_verify.specs.Kept.{AreKept, Keeps};
+ghost use Rattle.claxon_verify.specs.Places.{places_at};
 ghost use Rattle.claxon_verify.specs.Verify.{
   NothingIsWrong,
+  PlacesAreCounted,
   RightIsComplete,
   RightIsSound,
   StopsCounting,
@@ -25,13 +27,8 @@ ghost use Rattle.claxon_verify.specs.Verify.{
   update_position,
 };
 ghost use Rattle.claxon_blocks.specs.Md5Verdict.{Md5IsJudged, Md5IsShown};
-ghost use Rattle.claxon_verify.specs.Walk.{
-  CanBeLeftOut,
-  WalksToEnd,
-  count_so_far,
-  first_place,
-  place_count,
-};
+ghost use Rattle.claxon_verify.specs.Walk.{WalksToEnd};
+ghost use Rattle.claxon_verify.specs.declared.report.Place.{Place};
 
 use crate::report::{Found, Notes, Report, UnsupportedBlock};
 use claxon::input::ReadBytes;
@@ -42,15 +39,17 @@ use claxon_blocks::frames::read_frame;
 use claxon_blocks::md5_verdict::{Md5Verdict, computed_md5, judge_md5};
 use claxon_command_line::progress::Progress;
 use claxon_md5::Md5;
+pub use head::found_head_reads;
 use head::read_head;
 use std::alloc::Allocator;
 use std::io::Write;
 use walk::{ByteRange, Walk, at_end, too_many, trailing, with_fault, with_frame};
 
+mod due;
 mod head;
-mod order;
 mod places;
 pub mod report;
+mod scan;
 mod sizes;
 pub mod trailing;
 mod walk;
@@ -89,7 +88,8 @@ impl Running for BytesRead {
 }
 
 /// Decodes all frames of a stream, and goes on after each fault but an `IoError`. The MD5 sum of the samples is computed if
-/// `computes_md5` is true. If the streaminfo says how many samples there are, `progress` shows how many are done.
+/// `computes_md5` is true. After the first place `more` of them are kept. If the streaminfo says how many samples there are,
+/// `progress` shows how many are done.
 ///
 /// # Errors
 ///
@@ -99,6 +99,7 @@ pub fn verify<R: ReadBytes, A: Allocator + Copy, E: Write>(
     alloc: A,
     input: &mut R,
     computes_md5: bool,
+    more: usize,
     progress: &mut Progress<'_, '_, E>,
 ) -> Result<Report<A>>
     ensures is_sound { VerifyIsSound computes_md5 (bytes_in R.source input.old) result
@@ -109,8 +110,8 @@ pub fn verify<R: ReadBytes, A: Allocator + Copy, E: Write>(
         (bytes_in R.source input.new) }
     ensures right_is_complete { RightIsComplete computes_md5 (bytes_in R.source input.old) result
         (bytes_in R.source input.new) }
-    ensures places_are_counted { PlacesAreCounted (bytes_in R.source input.old) result
-        (bytes_in R.source input.new) }
+    ensures places_are_counted { PlacesAreCounted more computes_md5 (bytes_in R.source input.old)
+        result (bytes_in R.source input.new) }
     ensures fault_is_sound { VerifyFaultIsSound (bytes_in R.source input.old) result
         (bytes_in R.source input.new) }
     ensures head_fault_is_complete { VerifyHeadFaultIsComplete (bytes_in R.source input.old) result
@@ -119,7 +120,7 @@ pub fn verify<R: ReadBytes, A: Allocator + Copy, E: Write>(
         result (bytes_in R.source input.new) }
     ensures is_quiet { VerifyIsQuiet result progress.old progress.new }
 {
-    verify_exact(alloc, input, computes_md5, progress)
+    verify_exact(alloc, input, computes_md5, more, progress)
 }
 
 // `verify`, with all its clauses in one.
@@ -127,16 +128,17 @@ fn verify_exact<R: ReadBytes, A: Allocator + Copy, E: Write>(
     alloc: A,
     input: &mut R,
     computes_md5: bool,
+    more: usize,
     progress: &mut Progress<'_, '_, E>,
 ) -> Result<Report<A>>
     ensures promises { VerifyPromises computes_md5 (bytes_in R.source input.old) result
         (bytes_in R.source input.new) }
-    ensures places_are_counted { PlacesAreCounted (bytes_in R.source input.old) result
-        (bytes_in R.source input.new) }
+    ensures places_are_counted { PlacesAreCounted more computes_md5 (bytes_in R.source input.old)
+        result (bytes_in R.source input.new) }
     ensures is_quiet { VerifyIsQuiet result progress.old progress.new }
 {
     let mut input = RunningReader::new(input);
-    verify_counted(alloc, &mut input, computes_md5, progress)
+    verify_counted(alloc, &mut input, computes_md5, more, progress)
 }
 
 // Verifies a stream of which nothing was read.
@@ -144,20 +146,21 @@ fn verify_counted<R: ReadBytes, A: Allocator + Copy, E: Write>(
     alloc: A,
     input: &mut RunningReader<R, BytesRead>,
     computes_md5: bool,
+    more: usize,
     progress: &mut Progress<'_, '_, E>,
 ) -> Result<Report<A>>
     requires { position_of input.old ≡ 0 }
     ensures promises { VerifyPromises computes_md5 (counted_bytes R.source input.old) result
         (counted_bytes R.source input.new) }
-    ensures places_are_counted { PlacesAreCounted (counted_bytes R.source input.old) result
-        (counted_bytes R.source input.new) }
+    ensures places_are_counted { PlacesAreCounted more computes_md5
+        (counted_bytes R.source input.old) result (counted_bytes R.source input.new) }
     ensures is_quiet { VerifyIsQuiet result progress.old progress.new }
     ensures loans { (counted_bytes R.source input.new).source.loans
         ≡ (counted_bytes R.source input.old).source.loans }
 {
     let (info, unsupported) = read_head(alloc, input)?;
     progress.start(info.samples);
-    let walk = walk_frames(alloc, input, info, computes_md5, progress)?;
+    let walk = walk_frames(alloc, input, info, computes_md5, more, progress)?;
     Ok(report_of(info, unsupported, walk))
 }
 
@@ -171,9 +174,12 @@ fn report_of<A: Allocator>(
     ensures unsupported { result.unsupported ≡ unsupported }
     ensures frames { result.found.frames ≡ walk.frames }
     ensures samples { result.found.samples ≡ walk.samples }
-    ensures first { result.found.places.first ≡ first_place walk.places }
-    ensures count { CanBeLeftOut walk.places.ended
-        → place_count result.found.places ≡ count_so_far walk.places }
+    ensures kept { (all : List Place) → Keeps all walk.places
+        → AreKept (places_at walk.end (or_zero info.samples)
+        (record { scan = walk.scan; places = all }))
+        result.found.places.first result.found.places.more.items result.found.places.left_out }
+    ensures few { length walk.places.places.more.items ≤ walk.places.more
+        → length result.found.places.more.items ≤ walk.places.more }
     ensures sizes { result.found.notes.changed_block_size ≡ walk.sizes.changed }
     ensures md5_is_judged { Md5IsJudged (info_view info) walk.md5 result.md5 }
     ensures md5_is_shown { Md5IsShown walk.md5 result.computed_md5 }
@@ -184,16 +190,19 @@ fn report_of<A: Allocator>(
     let Walk {
         frames,
         samples,
+        scan,
         places,
         notes,
         sizes,
         md5,
+        end,
         ..
     } = walk;
+    let (ended, last) = scan.finish(end, info.samples.unwrap_or(0));
     let found = Found {
         frames,
         samples,
-        places: places.finish(),
+        places: places.with(ended).with(last).places,
         notes: Notes {
             changed_block_size: sizes.changed,
             ..notes
@@ -234,6 +243,7 @@ fn walk_frames<R: ReadBytes, A: Allocator + Copy, E: Write>(
     input: &mut RunningReader<R, BytesRead>,
     info: StreamInfo,
     computes_md5: bool,
+    more: usize,
     progress: &mut Progress<'_, '_, E>,
 ) -> Result<Walk<A>>
     requires min_bit_depth { 1 ≤ info.bits_per_sample }
@@ -241,17 +251,16 @@ fn walk_frames<R: ReadBytes, A: Allocator + Copy, E: Write>(
     ensures ok { IfOk result (WalksToEnd computes_md5 (Some (stream_with info)) (info_view info)
         (position_of input.old)
         (counted_bytes R.source input.old) (counted_bytes R.source input.new)) }
-    ensures places { IfOk result (WalksPlaces (Some (stream_with info)) (position_of input.old)
-        (counted_bytes R.source input.old) (counted_bytes R.source input.new)) }
+    ensures few { IfOk result (λ walk. (walk.places.more ≡ more)
+        × (length walk.places.places.more.items ≤ more)) }
     ensures err { IfErr result (StopsCounting (Some (stream_with info))
         (counted_bytes R.source input.old)) }
     ensures stays_quiet { StaysQuiet progress.old progress.new }
     ensures loans { (counted_bytes R.source input.new).source.loans
         ≡ (counted_bytes R.source input.old).source.loans }
 {
-    let mut walk = Walk::new(alloc, computes_md5);
+    let mut walk = Walk::new(alloc, computes_md5, more);
     let mut buffer = Vec::new(alloc);
-    let expected = info.samples.unwrap_or(0);
     for _ in 0..u64::MAX {
         let start = input.value().bytes;
         let read = read_frame(input, info, buffer);
@@ -264,11 +273,11 @@ fn walk_frames<R: ReadBytes, A: Allocator + Copy, E: Write>(
             }
             Ok(None) => {
                 let last = input.value().last;
-                return Ok(at_end(walk, ByteRange { start, end }, last, expected));
+                return Ok(at_end(walk, ByteRange { start, end }, last));
             }
             Err(fault) => {
                 let is_last = is_io_error(&fault.error);
-                walk = with_fault(walk, fault, ByteRange { start, end }, expected)?;
+                walk = with_fault(walk, fault, ByteRange { start, end })?;
                 if is_last {
                     return Ok(walk);
                 }

@@ -1,192 +1,117 @@
-//! The places of a stream that aren't right, while they are found.
-ghost use Rattle.std.specs.Prelude.{◌≡◌, ◌≢◌, ◌↔◌, ◌+◌, IsTrue, None, Some};
-ghost use Rattle.claxon_verify.specs.Walk.{
-  AddsPlace,
-  CanBeLeftOut,
-  CountsPlace,
-  DamageGoesOn,
-  KeepsCount,
-  KeepsFirstPlace,
-  LastGoesOn,
-  PlaceGoesOn,
-  count_so_far,
-  first_place,
-  or_else,
-  place_count,
-};
+//! The places that are kept of those that were found.
+ghost use Rattle.std.specs.Prelude.{◌≡◌, ◌↔◌, ◌<◌, [], ◌∷◌, IsTrue, false, length, if◌then◌else◌};
+ghost use Rattle.claxon_verify.specs.Kept.{Keeps, KeepsPlaces, Pushes};
+ghost use Rattle.claxon_verify.specs.Places.{list_of};
 
-use crate::report::{Damage, Place, Places};
-use crate::trailing::is_failed_read;
+use crate::report::{Place, Places};
 use std::alloc::Allocator;
 
-/// The places so far. The last one may go on.
+/// The first places, as many as are wanted and as there was memory for; the others are counted.
 #[derive(Debug, Drop)]
-pub(crate) struct PlacesSoFar<A: Allocator> {
-    ended: Places<A>,
-    last: Option<Place>,
+pub(crate) struct KeptPlaces<A: Allocator> {
+    pub places: Places<A>,
+    /// How many are kept after the first.
+    pub more: usize,
+    /// No more are kept.
+    pub is_full: bool,
 }
 
-impl<A: Allocator> PlacesSoFar<A> {
+impl<A: Allocator> KeptPlaces<A> {
     /// None so far.
-    pub fn new(alloc: A) -> PlacesSoFar<A>
-        ensures first { first_place result ≡ None }
-        ensures count { count_so_far result ≡ 0 }
-        ensures none_goes_on { (next : Place) → LastGoesOn result next → ⊥ }
+    pub fn new(alloc: A, more: usize) -> KeptPlaces<A>
+        ensures keeps { Keeps [] result }
+        ensures more { result.more ≡ more }
+        ensures none { result.places.more.items ≡ [] }
     {
-        PlacesSoFar {
-            ended: Places {
+        KeptPlaces {
+            places: Places {
                 first: None,
                 more: Vec::new(alloc),
                 left_out: 0,
             },
-            last: None,
-        }
-    }
-
-    /// One place more, or the last one made longer, if it goes on.
-    pub fn with(self, place: Place) -> PlacesSoFar<A>
-        ensures adds_place { AddsPlace place self result }
-        ensures counts_place { CountsPlace place self result }
-    {
-        let PlacesSoFar { ended, last } = self;
-        match last {
-            Some(last) if goes_on(&last, &place) => {
-                let Place {
-                    end_byte,
-                    end_sample,
-                    ..
-                } = place;
-                let last = Some(Place {
-                    end_byte,
-                    end_sample,
-                    ..last
-                });
-                PlacesSoFar { ended, last }
-            }
-            Some(last) => PlacesSoFar {
-                ended: with_place(ended, last),
-                last: Some(place),
-            },
-            None => PlacesSoFar {
-                ended,
-                last: Some(place),
-            },
-        }
-    }
-
-    /// Whether a fault ends at this byte.
-    pub fn has_fault_before(&self, byte: u64) -> bool
-        ensures { IsTrue result → first_place self.now ≢ None }
-    {
-        match &self.last {
-            Some(last) => is_fault_before(last, byte),
-            None => false,
-        }
-    }
-
-    /// The fault that ends at this byte, if there is one.
-    pub fn fault_before(&self, byte: u64) -> Option<&Place> {
-        match &self.last {
-            Some(last) if is_fault_before(last, byte) => Some(last),
-            _ => None,
-        }
-    }
-
-    /// The bytes from this one on, up to another, and the samples up to this one belong to the fault before them, if there is one.
-    pub fn longer(self, start: u64, end: u64, sample: u64) -> PlacesSoFar<A>
-        ensures keeps_first_place { KeepsFirstPlace (first_place self) (first_place result) }
-        ensures keeps_count { count_so_far result ≡ count_so_far self }
-    {
-        let PlacesSoFar { ended, last } = self;
-        let last = match last {
-            Some(last) if is_fault_before(&last, start) => Some(Place {
-                end_byte: end,
-                end_sample: last.end_sample.max(sample),
-                ..last
-            }),
-            last => last,
-        };
-        PlacesSoFar { ended, last }
-    }
-
-    /// The samples up to this one are in the last place.
-    pub fn up_to(self, sample: u64) -> PlacesSoFar<A>
-        ensures keeps_first_place { KeepsFirstPlace (first_place self) (first_place result) }
-        ensures keeps_count { KeepsCount self result }
-    {
-        let PlacesSoFar { ended, last } = self;
-        let last = match last {
-            Some(last) => Some(Place {
-                end_sample: sample,
-                ..last
-            }),
-            None => None,
-        };
-        PlacesSoFar { ended, last }
-    }
-
-    /// All of them.
-    pub fn finish(self) -> Places<A>
-        ensures first { result.first ≡ first_place self }
-        ensures count { CanBeLeftOut self.ended → place_count result ≡ count_so_far self }
-    {
-        let PlacesSoFar { ended, last } = self;
-        match last {
-            Some(last) => with_place(ended, last),
-            None => ended,
-        }
-    }
-}
-
-fn is_fault_before(place: &Place, byte: u64) -> bool {
-    matches!(&place.damage, Damage::Fault(_)) && place.end_byte == byte
-}
-
-// One place more, which is left out if memory is refused.
-fn with_place<A: Allocator>(places: Places<A>, place: Place) -> Places<A>
-    ensures first { result.first ≡ or_else places.first (Some place) }
-    ensures count { CanBeLeftOut places → place_count result ≡ place_count places + 1 }
-{
-    let Places {
-        first,
-        mut more,
-        mut left_out,
-    } = places;
-    if first.is_none() {
-        return Places {
-            first: Some(place),
             more,
+            is_full: false,
+        }
+    }
+
+    /// One place more, if there is one.
+    pub fn with(self, place: Option<Place>) -> KeptPlaces<A>
+        ensures keeps { KeepsPlaces (list_of place) self result }
+    {
+        match place {
+            Some(place) => self.with_place(place),
+            None => self,
+        }
+    }
+
+    // One place more.
+    fn with_place(self, place: Place) -> KeptPlaces<A>
+        ensures keeps { KeepsPlaces (place ∷ []) self result }
+    {
+        let KeptPlaces {
+            places,
+            more,
+            is_full,
+        } = self;
+        let Places {
+            first,
+            more: kept,
             left_out,
-        };
-    }
-    if more.push(place).is_err() {
-        left_out = left_out.saturating_add(1);
-    }
-    Places {
-        first,
-        more,
-        left_out,
+        } = places;
+        match first {
+            None => KeptPlaces {
+                places: Places {
+                    first: Some(place),
+                    more: kept,
+                    left_out,
+                },
+                more,
+                is_full,
+            },
+            Some(first) => {
+                let is_room = has_room(is_full, kept.as_slice(), more);
+                let Pushed { items, is_pushed } = push(kept, place, is_room);
+                let one_more = one_unless(is_pushed);
+                KeptPlaces {
+                    places: Places {
+                        first: Some(first),
+                        more: items,
+                        left_out: left_out.wrapping_add(one_more),
+                    },
+                    more,
+                    is_full: !is_pushed,
+                }
+            }
+        }
     }
 }
 
-// Whether a place goes on in the next one: faults one after another, or frames with the same damage. A failed read is a place
-// of its own.
-fn goes_on(last: &Place, next: &Place) -> bool
-    ensures { IsTrue result ↔ PlaceGoesOn last.now next.now }
+// 1, unless it is so.
+fn one_unless(is_so: bool) -> u64
+    ensures { result ≡ (if is_so then 0 else 1) }
 {
-    last.end_byte == next.start_byte && damage_goes_on(&last.damage, &next.damage)
+    if is_so { 0 } else { 1 }
 }
 
-fn damage_goes_on(last: &Damage, next: &Damage) -> bool
-    ensures { IsTrue result ↔ DamageGoesOn last.now next.now }
+// Whether there is room for one place more.
+fn has_room(is_full: bool, kept: &[Place], more: usize) -> bool
+    ensures { IsTrue result ↔ ((is_full ≡ false) × (length kept.now < more)) }
 {
-    match (last, next) {
-        (Damage::Fault(_), Damage::Fault(next)) => !is_failed_read(&next.error),
-        (Damage::Channels(a), Damage::Channels(b)) => a == b,
-        (Damage::BitDepth(a), Damage::BitDepth(b)) => a == b,
-        (Damage::SampleRate(a), Damage::SampleRate(b)) => a == b,
-        (Damage::BlockingStrategy, Damage::BlockingStrategy)
-        | (Damage::WideSample, Damage::WideSample) => true,
-        _ => false,
-    }
+    !is_full && kept.len() < more
+}
+
+// Places, and whether one was added.
+#[derive(Debug, Drop)]
+struct Pushed<A: Allocator> {
+    items: Vec<Place, A>,
+    is_pushed: bool,
+}
+
+// Adds a place, if there is room, unless memory for it is refused.
+fn push<A: Allocator>(items: Vec<Place, A>, place: Place, has_room: bool) -> Pushed<A>
+    ensures pushes { Pushes place has_room items.items result }
+{
+    let mut items = items;
+    let is_pushed = has_room && items.push(place).is_ok();
+    Pushed { items, is_pushed }
 }

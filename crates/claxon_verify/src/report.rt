@@ -55,31 +55,29 @@ pub struct Found<A: Allocator = Global> {
     pub notes: Notes,
 }
 
-/// The places of a stream that aren't right, in order.
+/// The places of a stream that aren't right, in order: the first ones.
 #[derive(Debug, Drop)]
 pub struct Places<A: Allocator = Global> {
     /// The first of them.
     pub first: Option<Place>,
-    /// Those after it, as far as there was memory for them.
+    /// Those after it, as many as were wanted, and as there was memory for.
     pub more: Vec<Place, A>,
-    /// How many are left out because memory was refused.
+    /// How many are left out after them.
     pub left_out: u64,
 }
 
-/// A part of a stream that isn't right.
+/// A part of a stream that isn't right: from the first thing that is wrong to the next frame that goes on in order.
 #[derive(Debug, Drop)]
 pub struct Place {
     /// The byte at which it begins, modulo 2^64. The first byte of the stream is 0.
     pub start_byte: u64,
     /// The byte after it: that of the next frame, or the length of the stream.
     pub end_byte: u64,
-    /// The number of its first sample, in the stream that was encoded, as far as that is known: of the first place, how many
-    /// samples of each channel are before it.
+    /// The number, in the stream that was encoded, of the sample that was due there.
     pub start_sample: u64,
-    /// The number, in the stream that was encoded, of the first sample after it, as far as that is known; where the stream ends,
-    /// that of the streaminfo.
+    /// The number of the first sample after it; where the stream ends, how many samples the streaminfo says.
     pub end_sample: u64,
-    /// What is wrong.
+    /// What is wrong first.
     pub damage: Damage,
 }
 
@@ -96,12 +94,16 @@ pub enum Damage {
     SampleRate(u32),
     /// Frames have another blocking strategy than the first frame.
     BlockingStrategy,
-    /// Frames or samples are missing before a frame.
+    /// Frames or samples are missing before a frame, or samples at the end.
     Missing(Gap),
-    /// Frames or samples are repeated, from a frame on.
-    Repeated(Gap),
+    /// Frames are there once more.
+    Repeated,
+    /// Frames come before others that were due.
+    OutOfOrder,
     /// Frames have a sample that doesn't fit in the bit depth.
     WideSample,
+    /// Frames end after the last sample that the streaminfo says.
+    Beyond,
 }
 
 /// A number of frames, or of samples of each channel where the block size is variable.
@@ -122,6 +124,8 @@ pub struct Notes {
     pub has_other_frame_size: bool,
     /// One byte stands after the last frame.
     pub has_byte_left: bool,
+    /// A read of the source failed.
+    pub has_failed_read: bool,
     /// The block size is fixed, but changes: a frame before the last one has another than the first.
     pub changed_block_size: Option<BlockSizes>,
 }
@@ -144,6 +148,8 @@ pub enum Trailing {
     Ape,
     /// Bytes of zeros.
     Zeros,
+    /// A second stream: `fLaC` and a streaminfo.
+    SecondStream,
     /// Other bytes.
     Other,
 }

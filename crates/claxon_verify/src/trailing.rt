@@ -2,7 +2,7 @@
 ghost use Rattle.std.specs.Prelude.{◌↔◌, IsTrue};
 ghost use Rattle.claxon_verify.specs.Walk.{IsFailedRead};
 
-use crate::report::{Damage, Trailing};
+use crate::report::Trailing;
 use claxon::Error;
 use claxon::fault_texts::SYNC_CODE_MISSING;
 use claxon_blocks::frames::FirstBytes;
@@ -46,6 +46,14 @@ impl BytesAfter {
         }
     }
 
+    /// A frame, after the others.
+    pub fn with_frame(self) -> BytesAfter {
+        BytesAfter {
+            are_zeros: false,
+            ..self
+        }
+    }
+
     /// One byte more, after the others.
     pub fn with_byte(self, byte: u8) -> BytesAfter {
         BytesAfter {
@@ -59,6 +67,7 @@ impl BytesAfter {
         match self.first {
             [b'T', b'A', b'G', ..] if count == 128 => Trailing::Id3v1,
             [b'A', b'P', b'E', b'T', b'A', b'G', b'E', b'X'] => Trailing::Ape,
+            [b'f', b'L', b'a', b'C', 0 | 0x80, 0, 0, 34] => Trailing::SecondStream,
             _ if self.are_zeros => Trailing::Zeros,
             _ => Trailing::Other,
         }
@@ -75,18 +84,7 @@ pub(crate) fn is_failed_read(error: &Error) -> bool
     }
 }
 
-/// Whether the bytes of this damage can be after the last frame: no read failed there.
-pub(crate) fn is_of_bytes(damage: &Damage) -> bool {
-    match damage {
-        Damage::Fault(fault) => !is_failed_read(&fault.error),
-        _ => false,
-    }
-}
-
 /// Whether no frame begins there, as far as its first two bytes tell.
-pub(crate) fn is_no_sync_code(damage: &Damage) -> bool {
-    match damage {
-        Damage::Fault(fault) => matches!(&fault.error, Error::FormatError(SYNC_CODE_MISSING)),
-        _ => false,
-    }
+pub(crate) fn is_no_sync_code(error: &Error) -> bool {
+    matches!(error, Error::FormatError(SYNC_CODE_MISSING))
 }

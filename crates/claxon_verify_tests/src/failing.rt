@@ -173,7 +173,8 @@ fn verified_after(
     reads: u32,
     kind: ErrorKind,
 ) -> claxon::Result<(u64, Option<u64>)> {
-    let bytes = frames_in_order();
+    let mut bytes = frames_in_order();
+    bytes[25] = 2;
     let source = Interrupts {
         bytes: &bytes,
         piece: 1,
@@ -250,7 +251,8 @@ fn says(
 // A file isn't read where reading fails in its head, in a frame, between two, or after the last one.
 #[test]
 fn files_that_are_not_read(rt: HostRuntime) -> Result<(), Fail> {
-    let (bytes, kind) = (frames_in_order(), ErrorKind::TimedOut);
+    let (mut bytes, kind) = (frames_in_order(), ErrorKind::TimedOut);
+    bytes[25] = 2;
     let failure = io::Error::from(kind);
     let line = format!(in rt.alloc(); "standard input: {failure}\n")?;
     let object = format!(in rt.alloc();
@@ -286,15 +288,13 @@ fn files_that_are_wrong(rt: HostRuntime) -> Result<(), Fail> {
         "standard input: wrong, 0 frames, 0 samples, but the streaminfo says 1, 1 place\nstandard input:   bytes 42 to 52, samples 0 to 1: truncated: the file ends inside a frame\n";
     assert!(rt; says(&rt, &["-"], cut, text, "")?);
     bytes[52] ^= 1;
-    let failure = io::Error::from(kind);
-    let text = format!(in rt.alloc();
-        "standard input: wrong, 0 frames, 0 samples, but the streaminfo says 1, 2 places\nstandard input:   bytes 42 to 53, samples 0 to 0: Ill-formed FLAC stream: frame CRC mismatch\nstandard input:   byte 53, samples 0 to 1: {failure}\n"
-    )?;
+    let text =
+        "standard input: wrong, 0 frames, 0 samples, but the streaminfo says 1, a read failed, 1 place\nstandard input:   bytes 42 to 53, samples 0 to 1: Ill-formed FLAC stream: frame CRC mismatch\n";
     let damaged = Fails {
         bytes: front(&bytes, 53),
         kind,
     };
-    assert!(rt; says(&rt, &["-"], damaged, text.as_str(), "")?);
+    assert!(rt; says(&rt, &["-"], damaged, text, "")?);
     Ok(())
 }
 

@@ -1,7 +1,8 @@
 //! Refused memory, for each request of a stream that is verified.
 use crate::places::numbers_of;
 use crate::reports::report_of;
-use claxon_testing::answers::{FRAME, Fault, SECOND, fault_of, head, joined, two_frames};
+use crate::streams::{FIXED, RATE, frame};
+use claxon_testing::answers::{Fault, fault_of, head, joined, two_frames};
 use claxon_testing::doubles::RefusesOne;
 use linked_list_allocator::LocalHeap;
 use std::alloc::{Allocator, Global};
@@ -37,13 +38,17 @@ fn streams(rt: HostRuntime) -> Result<(), Fail> {
     Ok(())
 }
 
-// The buffer of the blocks is requested first, and then memory for the places after the first. A place is left out without it.
+// The buffer of the blocks is requested first, and then memory for the places after the first. A place is left out without it:
+// the first frame has the number 1, and the second the number 3.
 #[test]
 fn places(rt: HostRuntime) -> Result<(), Fail> {
-    let bytes = joined(rt.alloc(), &[&head(0x80), &SECOND, &FRAME])?;
+    let (first, second) = (frame(FIXED, RATE, 1, 1), frame(FIXED, RATE, 3, 1));
+    let mut head = head(0x80);
+    head[25] = 0;
+    let bytes = joined(rt.alloc(), &[&head, &first, &second])?;
     for (granted, want) in [(0, Err(Fault::Memory)), (1, Ok((0, 1))), (2, Ok((1, 0)))] {
         let heap = RefusesOne::new(rt.alloc(), granted);
-        assert!(rt; numbers_of(&heap, &bytes) == want, "{granted}");
+        assert!(rt; numbers_of(&heap, &bytes, 999) == want, "{granted}");
     }
     Ok(())
 }

@@ -13,9 +13,19 @@ pub fn report_of<R: ReadBytes, A: Allocator + Copy>(
     input: &mut R,
     computes_md5: bool,
 ) -> claxon::Result<Report<A>> {
+    report_with(alloc, input, computes_md5, 999)
+}
+
+/// The same, where so many places are wanted after the first.
+pub fn report_with<R: ReadBytes, A: Allocator + Copy>(
+    alloc: A,
+    input: &mut R,
+    computes_md5: bool,
+    more: usize,
+) -> claxon::Result<Report<A>> {
     let mut errors = Sink::new(0, 0, false, ErrorKind::Other);
     let mut progress = Progress::new(&mut errors, None);
-    let report = verify(alloc, input, computes_md5, &mut progress);
+    let report = verify(alloc, input, computes_md5, more, &mut progress);
     progress.clear();
     report
 }

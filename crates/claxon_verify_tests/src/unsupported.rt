@@ -161,7 +161,7 @@ fn ends(rt: HostRuntime) -> Result<(), Fail> {
         let got = said(report_of(alloc, &mut Cursor::new(&bytes[..length]), true));
         let wants = match length {
             42..=64 => Err(Fault::Io),
-            65 | 66 => Ok((Some("separator"), false, 0, None)),
+            65 | 66 => Ok((Some("separator"), false, 0, Some(length as u64))),
             76 => Ok((Some("separator"), false, 1, None)),
             _ => Ok((Some("separator"), false, 0, Some(65))),
         };

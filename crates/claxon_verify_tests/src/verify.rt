@@ -25,7 +25,9 @@ pub(crate) enum Wrong {
     SampleRate(u32),
     BlockingStrategy,
     Missing(u64, bool),
-    Repeated(u64, bool),
+    Repeated,
+    OutOfOrder,
+    Beyond,
     WideSample,
 }
 
@@ -37,7 +39,9 @@ fn wrong_of(damage: &Damage) -> Wrong {
         Damage::SampleRate(rate) => Wrong::SampleRate(*rate),
         Damage::BlockingStrategy => Wrong::BlockingStrategy,
         Damage::Missing(gap) => Wrong::Missing(gap.count, gap.is_variable),
-        Damage::Repeated(gap) => Wrong::Repeated(gap.count, gap.is_variable),
+        Damage::Repeated => Wrong::Repeated,
+        Damage::OutOfOrder => Wrong::OutOfOrder,
+        Damage::Beyond => Wrong::Beyond,
         Damage::WideSample => Wrong::WideSample,
     }
 }
@@ -95,12 +99,23 @@ pub(crate) const CRC: Wrong = Wrong::Fault(Fault::Format("frame CRC mismatch"));
 
 const CUT: Wrong = Wrong::Fault(Fault::Io);
 
+// The only sample is missing.
+const LOST: Wrong = Wrong::Missing(1, true);
+
 // Numbers of bytes of two frames of one sample, after a head that says that there is one sample; which of the frames have a
 // wrong CRC; and what is said. The head has 42 bytes, and each frame 11. It says that blocks have 16 samples, so the second frame
 // begins at the sample 16 where the first isn't known.
 const ROWS: [(usize, [bool; 2], Said); 12] = [
-    (42, [false, false], ((0, 0, 0), None, false)),
-    (43, [false, false], ((0, 0, 0), None, false)),
+    (
+        42,
+        [false, false],
+        ((0, 0, 0), Some((42, 42, 0, 1, LOST)), false),
+    ),
+    (
+        43,
+        [false, false],
+        ((0, 0, 0), Some((43, 43, 0, 1, LOST)), false),
+    ),
     (
         44,
         [false, false],
@@ -123,7 +138,11 @@ const ROWS: [(usize, [bool; 2], Said); 12] = [
         [false, true],
         ((1, 1, 0), Some((53, 63, 1, 1, CUT)), false),
     ),
-    (64, [false, false], ((2, 2, 0), None, false)),
+    (
+        64,
+        [false, false],
+        ((2, 2, 0), Some((53, 64, 1, 1, Wrong::Beyond)), false),
+    ),
     (
         64,
         [true, false],
@@ -186,19 +205,11 @@ const NO_SYNC: Wrong = Wrong::Fault(Fault::Format("frame sync code missing"));
 const ORDERS: [(&[&[u8]], Said); 8] = [
     (
         &[&FRAME, &FRAME],
-        (
-            (2, 2, 0),
-            Some((53, 53, 1, 0, Wrong::Repeated(1, false))),
-            false,
-        ),
+        ((2, 2, 0), Some((53, 64, 1, 1, Wrong::Repeated)), false),
     ),
     (
         &[&SECOND, &FRAME],
-        (
-            (2, 2, 1),
-            Some((42, 42, 0, 16, Wrong::Missing(1, false))),
-            false,
-        ),
+        ((2, 2, 0), Some((42, 53, 0, 0, Wrong::OutOfOrder)), false),
     ),
     (
         &[&VARIABLE],
@@ -212,25 +223,25 @@ const ORDERS: [(&[&[u8]], Said); 8] = [
         &[&FRAME, &VARIABLE],
         (
             (2, 2, 0),
-            Some((53, 64, 1, 2, Wrong::BlockingStrategy)),
+            Some((53, 64, 1, 1, Wrong::BlockingStrategy)),
             false,
         ),
     ),
     (
         &[&PAIRS],
-        ((1, 2, 0), Some((42, 55, 0, 2, Wrong::Channels(2))), false),
+        ((1, 2, 0), Some((42, 55, 0, 0, Wrong::Channels(2))), false),
     ),
     (
         &[&FRAME, &FASTER],
         (
             (2, 2, 0),
-            Some((53, 64, 1, 2, Wrong::SampleRate(48000))),
+            Some((53, 64, 1, 1, Wrong::SampleRate(48000))),
             false,
         ),
     ),
     (
         &[&FRAME, &DEEPER],
-        ((2, 2, 0), Some((53, 65, 1, 2, Wrong::BitDepth(16))), false),
+        ((2, 2, 0), Some((53, 65, 1, 1, Wrong::BitDepth(16))), false),
     ),
     (
         &[&FRAME, &[0, 0, 0]],
@@ -266,10 +277,12 @@ fn orders_of_frames(rt: HostRuntime) {
     }
 }
 
-// The smallest head, for other samples: these are the bytes in which their bit depth and the number of channels are.
+// The smallest head, for other samples, of an unknown number: these are the bytes in which their bit depth and the number of
+// channels are.
 fn head_for(format: [u8; 2]) -> [u8; 42] {
     let mut bytes = head(0x80);
     bytes[20..22].copy_from_slice(&format);
+    bytes[25] = 0;
     bytes
 }
 
@@ -307,29 +320,29 @@ const DEEPEST: [u8; 14] = [
     0xff, 0xf8, 0x69, 0x00, 0x00, 0x00, 0x4c, 0x00, 0x80, 0x00, 0x00, 0x00, 0x0b, 0xb2,
 ];
 
-// The format in the head, frames in order, and what is said. The head says that there is one sample.
+// The format in the head, frames in order, and what is said.
 const WIDE_SAMPLES: [([u8; 2], &[&[u8]], Said); 7] = [
     (MONO_8_BITS, &[&GREATEST], ((1, 1, 0), None, true)),
-    (MONO_8_BITS, &[&FRAME, &LEAST], ((2, 2, 0), None, false)),
+    (MONO_8_BITS, &[&FRAME, &LEAST], ((2, 2, 0), None, true)),
     (
         MONO_8_BITS,
         &[&WIDE],
-        ((1, 1, 0), Some((42, 55, 0, 1, Wrong::WideSample)), false),
+        ((1, 1, 0), Some((42, 55, 0, 0, Wrong::WideSample)), false),
     ),
     (
         MONO_8_BITS,
         &[&FRAME, &WIDE_SECOND],
-        ((2, 2, 0), Some((53, 66, 1, 2, Wrong::WideSample)), false),
+        ((2, 2, 0), Some((53, 66, 1, 1, Wrong::WideSample)), false),
     ),
     (
         MONO_8_BITS,
         &[&WIDE, &WIDE_SECOND],
-        ((2, 2, 0), Some((42, 68, 0, 2, Wrong::WideSample)), false),
+        ((2, 2, 0), Some((42, 68, 0, 0, Wrong::WideSample)), false),
     ),
     (
         STEREO_16_BITS,
         &[&WIDE_RIGHT],
-        ((1, 1, 0), Some((42, 58, 0, 1, Wrong::WideSample)), false),
+        ((1, 1, 0), Some((42, 58, 0, 0, Wrong::WideSample)), false),
     ),
     (MONO_32_BITS, &[&DEEPEST], ((1, 1, 0), None, true)),
 ];
@@ -418,7 +431,7 @@ fn shows(alloc: Global, label: Option<&str>, want: &str) -> bool {
     let mut errors: Vec<u8> = Vec::new(alloc);
     let mut progress = Progress::new(&mut errors, label);
     let mut input = Cursor::new(bytes.as_slice());
-    let is_whole = match verify(alloc, &mut input, true, &mut progress) {
+    let is_whole = match verify(alloc, &mut input, true, 999, &mut progress) {
         Ok(report) => report.found.frames == 2,
         Err(_) => false,
     };
@@ -439,15 +452,15 @@ const LINES: [(usize, [bool; 2], u8, &str, &str); 8] = [
         42,
         [false, false],
         1,
-        "wrong, 0 frames, 0 samples, but the streaminfo says 1",
-        "",
+        "wrong, 0 frames, 0 samples, but the streaminfo says 1, 1 place",
+        "byte 42, samples 0 to 1: 1 sample is missing",
     ),
     (
         64,
         [false, false],
         1,
-        "wrong, 2 frames, 2 samples, but the streaminfo says 1",
-        "",
+        "wrong, 2 frames, 2 samples, but the streaminfo says 1, 1 place",
+        "bytes 53 to 64, samples 1 to 1: frames after the streaminfo's last sample",
     ),
     (
         63,
@@ -545,14 +558,16 @@ const REFUSED: [[u8; 4]; 2] = [[0xff, 0xf8, 0x69, 0x06], [0xff, 0xf8, 0x69, 0xbe
 #[test]
 fn reserved_codes(rt: HostRuntime) -> Result<(), Fail> {
     for header in REFUSED {
-        let bytes = joined(rt.alloc(), &[&head(0x80), &FRAME, &SECOND, &header])?;
+        let mut head = head(0x80);
+        head[25] = 3;
+        let bytes = joined(rt.alloc(), &[&head, &FRAME, &SECOND, &header])?;
         assert!(rt;
             has_lines(
                 &rt,
                 bytes.as_slice(),
                 1,
-                "wrong, 2 frames, 2 samples, but the streaminfo says 1, 1 place",
-                "bytes 64 to 68, samples 2 to 2: Ill-formed FLAC stream: invalid frame header, encountered reserved value",
+                "wrong, 2 frames, 2 samples, but the streaminfo says 3, 1 place",
+                "bytes 64 to 68, samples 2 to 3: Ill-formed FLAC stream: invalid frame header, encountered reserved value",
             )
         );
     }
@@ -562,7 +577,8 @@ fn reserved_codes(rt: HostRuntime) -> Result<(), Fail> {
 // A streaminfo of 32 bits: a frame that leaves the bit depth to it, and the code.
 #[test]
 fn samples_of_32_bits(rt: HostRuntime) -> Result<(), Fail> {
-    let (alloc, head) = (rt.alloc(), head_for(MONO_32_BITS));
+    let (alloc, mut head) = (rt.alloc(), head_for(MONO_32_BITS));
+    head[25] = 1;
     let right = joined(alloc, &[&head, &DEEP_FRAME])?;
     assert!(rt;
         has_lines(
@@ -654,11 +670,14 @@ fn lost_output(rt: HostRuntime) -> Result<(), Fail> {
 #[test]
 fn command_lines(rt: HostRuntime) {
     let usage =
-        "usage: claxon verify [--no-md5] [--brief] [--json] [-q] [-r] [--summary] [--files0-from FILE] [--] FILE..\n";
+        "usage: claxon verify [--no-md5] [--brief] [--json] [-q] [-r] [--summary] [--places N] [--files0-from FILE] [--] FILE..\n";
     let other =
-        "claxon verify: unknown option -t\nusage: claxon verify [--no-md5] [--brief] [--json] [-q] [-r] [--summary] [--files0-from FILE] [--] FILE..\n";
-    let rows: [(&[&str], &str); 4] = [
+        "claxon verify: unknown option -t\nusage: claxon verify [--no-md5] [--brief] [--json] [-q] [-r] [--summary] [--places N] [--files0-from FILE] [--] FILE..\n";
+    let rows: [(&[&str], &str); 7] = [
         (&[], usage),
+        (&["-", "--places"], usage),
+        (&["--places", "0", "-"], usage),
+        (&["--places", "-1", "-"], usage),
         (&["--"], usage),
         (&["--files0-from", "-", "a.flac"], usage),
         (&["-t", "-"], other),

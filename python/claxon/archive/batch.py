@@ -11,7 +11,7 @@ import subprocess
 import sys
 import tempfile
 import time
-from contextlib import ExitStack, contextmanager, nullcontext
+from contextlib import ExitStack, contextmanager, nullcontext, suppress
 from typing import IO, Any, ContextManager, Dict, Iterator, List, NamedTuple, Optional, Tuple
 
 # What is known of a file that was verified, in the order of the first columns of the results.
@@ -61,10 +61,14 @@ _PLACES, _BETWEEN = b'"places":[', b'},{"start_byte":'
 
 # What the system says of reads that fail. Such a read inside a frame may be told as a place.
 _READ_FAILED = frozenset(os.strerror(number) for number in errno.errorcode)
+_READ_NOTE = "a read failed"
 
 # How the text begins of a file that ends inside a frame, and how many thousandths are said to be
 # missing at most.
 _CUT, _MOST_MISSING = "truncated", 99_000
+
+# What is raised where a line isn't the object of a file.
+_NOT_AN_OBJECT = (ValueError, AttributeError, LookupError, TypeError)
 
 # The integers of SQLite have 64 bits, one of which is the sign.
 _SIGN = 1 << 63
@@ -77,11 +81,14 @@ class Unable(Exception):
 def identity_of(status: os.stat_result) -> Identity:
     changed, ctime = status.st_mtime_ns, status.st_ctime_ns
     device, inode = status.st_dev, status.st_ino
-    if (changed | ctime | device | inode) >> 63:
-        changed, ctime, device, inode = (
-            (number + _SIGN) % (2 * _SIGN) - _SIGN for number in (changed, ctime, device, inode)
-        )
+    if not (changed < _SIGN > ctime and device < _SIGN > inode):
+        changed, ctime, device, inode = map(_signed, (changed, ctime, device, inode))
     return status.st_size, changed, ctime, device, inode
+
+
+def _signed(number: int) -> int:
+    """The number as an integer of SQLite."""
+    return (number + _SIGN) % (2 * _SIGN) - _SIGN
 
 
 def find_program(beside: Optional[str]) -> str:
@@ -240,7 +247,8 @@ def verify_batch(names: bytes, beside: Optional[str], turn: Turn = nullcontext()
             rows.append(unread_row(path, error.strerror or str(error), version))
             continue
         if stat.S_ISREG(status.st_mode):
-            files.append((path, *identity_of(status)[:2]))
+            changed = status.st_mtime_ns
+            files.append((path, status.st_size, changed if changed < _SIGN else _signed(changed)))
     return rows + _verify_files(program, version, files, turn)
 
 
@@ -313,14 +321,16 @@ def _temporary() -> Iterator[None]:
 def _put_names(files: List[File], stack: ExitStack) -> Tuple[IO[bytes], Optional[str]]:
     """The list of the files, and the folder in which it holds. A name that isn't UTF-8 is that of a
     link in a folder of its own."""
-    odd = {path: b"%d" % index for index, (path, _, _) in enumerate(files) if not is_text(path)}
+    paths = [path for path, _, _ in files]
     folder: Optional[str] = None
-    if odd:
+    if not is_text(b"\0".join(paths)):
         folder = stack.enter_context(tempfile.TemporaryDirectory(prefix="claxon-archive-"))
-        for path, name in odd.items():
-            os.symlink(path, os.path.join(os.fsencode(folder), name))
+        for index, path in enumerate(paths):
+            if not is_text(path):
+                paths[index] = b"%d" % index
+                os.symlink(path, os.path.join(os.fsencode(folder), paths[index]))
     names = stack.enter_context(tempfile.TemporaryFile())
-    names.write(b"".join(odd.get(path, path) + b"\0" for path, _, _ in files))
+    names.write(b"\0".join([*paths, b""]))
     names.seek(0)
     return names, folder
 
@@ -336,35 +346,87 @@ def _check_room(output: IO[bytes]) -> None:
 
 def _rows(program: str, version: str, files: List[File], output: IO[bytes]) -> Iterator[Row]:
     """The rows of the lines that are whole."""
-    for file in files:
-        line = output.readline(_LONG)
-        places = _Places(file[1])
+    lines, objects = _decoded(output)
+    for file, line, told in zip(files, lines, objects):
         try:
-            if line.endswith(b"\n"):
-                told = json.loads(line.decode())
-                places.add(told.get("places", []))
-            elif len(line) == _LONG:
-                told = _long_object(line, output, places)
-            else:
-                return
-            if told is None:
-                return
-            row = _row(file, told, places, version)
-            if not all(map(_is_kept, row)):
-                raise ValueError
-        except (ValueError, AttributeError, LookupError, TypeError):
-            begin = line[:200]
-            raise OSError(f"{program} printed what isn't the object of a file: {begin!r}") from None
+            is_right = told["verdict"] == "ok"
+            row = _right_row(file, told, version) if is_right else _other_row(file, told, version)
+        except _NOT_AN_OBJECT:
+            raise _other_output(program, line + b"\n") from None
         yield row
+    for file in files[len(objects) :]:
+        line = output.readline(_LONG)
+        try:
+            found = _row_of_line(file, line, output, version)
+        except _NOT_AN_OBJECT:
+            raise _other_output(program, line) from None
+        if found is None:
+            return
+        yield found
+
+
+def _other_output(program: str, line: bytes) -> OSError:
+    begin = line[:200]
+    return OSError(f"{program} printed what isn't the object of a file: {begin!r}")
+
+
+def _decoded(output: IO[bytes]) -> Tuple[List[bytes], List[Any]]:
+    """The lines, and what they tell, if they are short: to decode them as one array takes less
+    time. None where one isn't an object: they are read again then."""
+    found: List[Any] = []
+    lines: List[bytes] = []
+    if output.seek(0, os.SEEK_END) <= _LONG:
+        output.seek(0)
+        lines = output.read().split(b"\n")[:-1]
+        with suppress(ValueError):
+            found = json.loads((b"[" + b",".join(lines) + b"]").decode())
+    if len(found) != len(lines) or not found:
+        output.seek(0)
+        return [], []
+    return lines, found
+
+
+def _row_of_line(file: File, line: bytes, output: IO[bytes], version: str) -> Optional[Row]:
+    """The row of a line of which this is the begin, or all. None if the line isn't whole."""
+    if line.endswith(b"\n"):
+        return _other_row(file, json.loads(line.decode()), version)
+    places = _Places(file[1])
+    told = _long_object(line, output, places) if len(line) == _LONG else None
+    return None if told is None else _kept(_row(file, told, places, version))
+
+
+def _other_row(file: File, told: Dict[str, Any], version: str) -> Row:
+    """The row of a file of which this is told, right or not."""
+    places = _Places(file[1])
+    places.add(told.get("places", []))
+    return _kept(_row(file, told, places, version))
+
+
+def _right_row(file: File, told: Dict[str, Any], version: str) -> Row:
+    """The same of a file that is right, in less time, as most are."""
+    samples, md5 = told.get("samples"), told.get("md5")
+    rate, total, computed = told.get("sample_rate"), told.get("streaminfo_samples"), told.get(_SUM)
+    for value in (samples, md5, rate, total, computed):
+        if not _is_kept(value):
+            raise ValueError
+    now, no = int(time.time()), None
+    return (*file, now, "ok", samples, md5, no, no, no, no, no, version, rate, total, computed)
+
+
+def _kept(row: Row) -> Row:
+    """ValueError where SQLite can't keep a value of it."""
+    if not all(map(_is_kept, row)):
+        raise ValueError
+    return row
 
 
 def _is_kept(value: Any) -> bool:
     """Whether SQLite can keep the value."""
+    if isinstance(value, int):
+        return -_SIGN <= value < _SIGN
     if isinstance(value, str):
         value.encode()  # ValueError where it isn't text
         return True
-    if isinstance(value, int):
-        return -_SIGN <= value < _SIGN
     return value is None or isinstance(value, bytes)
 
 
@@ -378,6 +440,7 @@ class _Places:
         self.first: Dict[str, Any] = {}
         self.last = ""
         self.last_sample: Optional[int] = None
+        self.is_cut = False
         self.number = 0
 
     def add(self, places: List[Dict[str, Any]]) -> None:
@@ -386,6 +449,10 @@ class _Places:
         self.first = self.first or places[0]
         self.last = str(places[-1]["what"])
         self.last_sample = places[-1].get("start_sample")
+        is_at_end = places[-1]["start_byte"] == self._size
+        self.is_cut = self.last.startswith(_CUT) or (
+            is_at_end and self.last.endswith(" missing")
+        )
         self.number += len(places)
         for place in places:
             self._add_range(place["start_byte"], place["end_byte"])
@@ -431,8 +498,10 @@ def unread_row(path: bytes, why: str, version: Optional[str]) -> Row:
 
 def _row(file: File, told: Dict[str, Any], places: _Places, version: str) -> Row:
     verdict = told["verdict"]
-    if verdict == "not read" or places.last in _READ_FAILED:
-        return unread_row(file[0], str(told.get("reason") or places.last), version)
+    has_failed = _READ_NOTE in told.get("notes", ())
+    if verdict == "not read" or places.last in _READ_FAILED or has_failed:
+        why = places.last if places.last in _READ_FAILED else _READ_NOTE
+        return unread_row(file[0], str(told.get("reason") or why), version)
     is_wrong = verdict == "wrong"
     return (
         *file,
@@ -458,7 +527,7 @@ def _missing(told: Dict[str, Any], places: _Places) -> int:
     there, said = told.get("samples", 0), told.get("streaminfo_samples", 0)
     if places.number > 0:
         there = places.last_sample or 0
-        is_known = places.last.startswith(_CUT) and "left_out" not in told
+        is_known = places.is_cut and "left_out" not in told
     else:
         is_known = told.get("md5") != "ok"
     if not is_known or said <= there:

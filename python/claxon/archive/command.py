@@ -13,7 +13,7 @@ from .output import STANDARD, ClosedOutput, Output, OutputError, standard_output
 from .progress import open_progress, size_text
 from .results import ALL, VERDICTS, Due, Lock, Ranges, Results, ResultsError, TemporaryError
 from .results import outermost, ranges_of
-from .run import Wanted, check_operands, run
+from .run import Wanted, check_operands, fewer_collections, run
 
 _DESCRIPTION = """\
 Verifies the FLAC files below folders by `claxon verify`, and keeps the verdicts: those of files
@@ -167,7 +167,8 @@ def _run(options: argparse.Namespace, folders: List[bytes], results: Results) ->
         wanted = Wanted(
             folders, jobs, options.scheduler, options.older_than, options.all, options.sample
         )
-        run(wanted, results, progress)
+        with fewer_collections():
+            run(wanted, results, progress)
     finally:
         progress.end()
 

@@ -127,7 +127,7 @@ def find(operand: bytes, passed_over: Optional[Inodes], unreadable: Unreadable) 
         unreadable(_as_folder(operand), error)
         return
     if stat.S_ISREG(status.st_mode):
-        yield (operand, *identity_of(status))
+        yield (operand,) + identity_of(status)
         return
     folders = [operand] if stat.S_ISDIR(status.st_mode) else []
     while folders:
@@ -167,7 +167,7 @@ def _find_among(
             if stat.S_ISREG(status.st_mode) and (
                 is_named or _is_marked(entry, status, passed_over)
             ):
-                yield (entry.path, *identity_of(status))
+                yield (entry.path,) + identity_of(status)
         except OSError as error:
             if is_named or not isinstance(error, FileNotFoundError):
                 unreadable(entry.path, error)

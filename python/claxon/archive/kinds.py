@@ -13,6 +13,7 @@ _NUMBER = "another number of samples"
 _LOST = "other bytes in place of the last frames"
 _SUM = "another MD5 sum"
 _CUT = "cut off before the end"
+_SECOND = "a second stream after the first"
 _HEAD = "no head of a FLAC file"
 _TAG = "only a tag after the last frame"
 _BYTES = "only other bytes after the last frame"
@@ -23,6 +24,8 @@ _SAID = re.compile(r"the streaminfo says ([0-9]+) sample")
 _FRAMES = (
     (r"(is|are) missing$", "frames are missing"),
     (r"(is|are) repeated$", "frames are repeated"),
+    (r"out of order$", "frames are out of order"),
+    (r"^frames after the streaminfo's last sample$", _NUMBER),
     (
         r"but the streaminfo says|^the blocking strategy|^a sample has more bits",
         "frames differ from the streaminfo",
@@ -91,6 +94,8 @@ def _kind_after(row: Row) -> Optional[Kind]:
     after = _AFTER.match(str(row["damage"]))
     if after is None:
         return None
+    if str(row["damage"]).endswith(": a second stream begins"):
+        return Kind(_SECOND)
     if row["md5"] != "ok" and row["samples"] < expected_samples(row):
         return Kind(_LOST)
     if row["md5"] == "wrong":

@@ -2,6 +2,7 @@
 import fcntl
 import itertools
 import math
+import operator
 import os
 import sqlite3
 import time
@@ -21,6 +22,12 @@ VERDICTS = ("ok", "wrong", "not supported", "not read", "missing")
 # How many files are looked up in the results by one statement. Older versions of SQLite allow no
 # more than 999 values in it.
 _CHUNK = 300 if sqlite3.sqlite_version_info >= (3, 32) else 150
+
+# How many rows of files that are new are put by one statement, of these columns of `incoming`, and
+# into the history of these.
+_NEW = 70
+_NEW_VALUES = operator.itemgetter(0, 1, 2, 3, 5, 6, *range(12, tables.ROW_COLUMNS))
+_HISTORY_VALUES = operator.itemgetter(0, 3, 1, 2, 6, 15)
 
 # Paths are bytes, for which the module would look for an adapter each time, in vain.
 sqlite3.register_adapter(bytes, bytes)
@@ -54,6 +61,8 @@ class DueFile(NamedTuple):
     ctime: Optional[int]
     device: Optional[int]
     inode: Optional[int]
+    is_new: int = 0  # 1: the results have no row of it
+    number: int = 0  # among the files that are due, from 1 on
 
 
 class Run(NamedTuple):
@@ -236,8 +245,7 @@ class Results:
         with _temporary():
             for start in range(0, len(found), _CHUNK):
                 chunk = found[start : start + _CHUNK]
-                put = tables.PUT_DUE.format(rows=", ".join(["(?, ?, ?, ?, ?, ?)"] * len(chunk)))
-                self._database.execute(put, [*itertools.chain.from_iterable(chunk), before])
+                self._execute_for(tables.PUT_DUE, tables.FOUND_ROW, chunk, before)
             self._database.executemany("INSERT INTO unread VALUES (?, ?)", unread)
         self._found += len(found)
         if self._has_taken_over:
@@ -339,15 +347,14 @@ class Results:
                     (low, high),
                 )
 
-    def due(self, last: int) -> List[Tuple[int, DueFile]]:
-        """Some of the files that are to be verified, after this one of them. The first has the
-        number 1."""
+    def due(self, last: int) -> List[DueFile]:
+        """Some of the files that are to be verified, after the one with this number."""
         rows = self._database.execute(
-            "SELECT rowid, path, size, ctime, device, inode FROM due WHERE rowid > ?"
+            "SELECT path, size, ctime, device, inode, is_new, rowid FROM due WHERE rowid > ?"
             " ORDER BY rowid LIMIT 1000",
             (last,),
         )
-        return [(row[0], DueFile(*row[1:])) for row in rows]
+        return list(map(DueFile._make, rows))
 
     def _count(self, rows: str, *values: Any) -> int:
         (number,) = self._database.execute(f"SELECT count(*) FROM {rows}", values).fetchone()
@@ -367,12 +374,52 @@ class Results:
         """Keeps what is known of these files now, all or nothing. A file that couldn't be read
         keeps the verdict that it has."""
         size = sum(row[1] or 0 for row in rows)
+        new: List[Tuple[Any, ...]] = []
+        others: List[Tuple[Any, ...]] = []
+        for row in rows:
+            file = found[row[0]]
+            known = row + file[2:5] + (path_text(row[0]),)
+            (new if file.is_new and row[4] == "ok" else others).append(known)
         with self.transaction():
-            self._put_rows((*row, *found[row[0]][2:], path_text(row[0])) for row in rows)
+            self._put_new(new)
+            if others:
+                self._put_rows(others)
             self._database.execute(
                 "UPDATE runs SET ended = ?, files = files + ?, bytes = bytes + ? WHERE id = ?",
                 (time.time(), len(rows), size, self._run),
             )
+
+    def _put_new(self, rows: List[Tuple[Any, ...]]) -> None:
+        """Puts rows of right files that the results have no rows of. Most are such ones, and so
+        they are put without a look at what was there, and without the values that all have."""
+        put: List[Tuple[Any, ...]] = []
+        for start in range(0, len(rows), _NEW):
+            chunk = rows[start : start + _NEW]
+            try:
+                self._execute_for(tables.PUT_NEW, tables.NEW_ROW, map(_NEW_VALUES, chunk))
+                put += chunk
+            except sqlite3.IntegrityError:  # one was found twice
+                self._put_rows(chunk)
+        if put and not self._put_history_between(min(put)[0], max(put)[0], len(put)):
+            for start in range(0, len(put), _NEW):
+                values = map(_HISTORY_VALUES, put[start : start + _NEW])
+                self._execute_for(tables.PUT_NEW_HISTORY, tables.NEW_HISTORY_ROW, values)
+
+    def _put_history_between(self, first: bytes, last: bytes, number: int) -> bool:
+        """Puts the rows between these paths into the history, if they are so many and none is in
+        it. From table to table that takes less time."""
+        between = "path BETWEEN ? AND ? LIMIT ?)"
+        rows = self._count(f"(SELECT 1 FROM files WHERE {between}", first, last, number + 1)
+        if rows != number or self._count(f"(SELECT 1 FROM history WHERE {between}", first, last, 1):
+            return False
+        self._database.execute(tables.PUT_HISTORY_BETWEEN, (self._run, first, last))
+        return True
+
+    def _execute_for(self, put: str, row: str, values: Iterable[Any], *more: Any) -> None:
+        """Executes a statement over many rows, which takes less time than many statements."""
+        found = list(values)
+        statement = put.format(rows=", ".join([row] * len(found)), run=self._run)
+        self._database.execute(statement, [*itertools.chain.from_iterable(found), *more])
 
     def _put_rows(self, rows: Iterable[Tuple[Any, ...]]) -> None:
         places = ", ".join("?" * tables.ROW_COLUMNS)

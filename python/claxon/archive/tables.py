@@ -91,6 +91,23 @@ PUT_READ = """
 INSERT OR REPLACE INTO files SELECT *, NULL, NULL FROM incoming WHERE verdict <> 'not read'
 """
 
+# The rows of right files that are new, of which `files` has none; the history may.
+PUT_NEW = "INSERT INTO files VALUES {rows}"
+NEW_ROW = (
+    "(?, ?, ?, ?, 'ok', ?, ?, NULL, NULL, NULL, NULL, NULL, ?, ?, ?, ?, ?, ?, ?, ?, NULL, NULL)"
+)
+PUT_NEW_HISTORY = """
+INSERT INTO history
+SELECT column1, 1 + coalesce((SELECT max(number) FROM history WHERE path = column1), 0), column2,
+    'ok', column3, column4, column5, column6, NULL, NULL, {run}
+FROM (VALUES {rows})
+"""
+NEW_HISTORY_ROW = "(?, ?, ?, ?, ?, ?)"
+PUT_HISTORY_BETWEEN = """
+INSERT INTO history SELECT path, 1, verified, verdict, size, changed, md5, sum, NULL, NULL, ?
+FROM files WHERE path BETWEEN ? AND ?
+"""
+
 # A verdict on bytes that were read stays beside.
 PUT_UNREAD = """
 INSERT INTO files (path, verified, verdict, damage, version, path_text, unread)
@@ -105,6 +122,7 @@ ON CONFLICT (path) DO UPDATE SET
 
 # A file is due that is new, isn't what was verified, isn't right, couldn't be read the last time,
 # or was verified before some time. Of rows that were taken over the inode isn't known yet.
+FOUND_ROW = "(?, ?, ?, ?, ?, ?)"
 PUT_DUE = """
 INSERT INTO due SELECT found.column1, found.column2, found.column4, found.column5, found.column6,
     files.path IS NULL

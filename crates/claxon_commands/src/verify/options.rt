@@ -1,7 +1,7 @@
 //! The arguments of the command `verify`.
 ghost use Rattle.claxon_commands.specs.VerifyOptions.{FilesAre, RequestIsSound};
 
-use claxon_command_line::arguments::{Argument, Arguments, Notice, Operands};
+use claxon_command_line::arguments::{Argument, Arguments, Notice};
 use claxon_command_line::names::not_utf8_name;
 use claxon_verdict::print::PrintOptions;
 
@@ -18,9 +18,60 @@ pub struct VerifyRequest<'a> {
 #[derive(Drop)]
 pub enum NamedFiles<'a> {
     /// Those that the operands name: one or more.
-    Operands(Operands<'a>),
+    Operands(FileNames<'a>),
     /// Those that are named in the file of this name.
     List(&'a str),
+}
+
+/// The operands, in order: names of files.
+#[derive(Drop)]
+pub struct FileNames<'a> {
+    arguments: Arguments<'a>,
+    count: usize,
+}
+
+impl<'a> FileNames<'a> {
+    ghost use Rattle.std.specs.Prelude.{◌≡◌};
+    ghost use Rattle.claxon_commands.specs.VerifyOptions.{names_total};
+
+    // The operands among these words, of which there are so many.
+    fn new(words: &'a [String], count: usize) -> FileNames<'a>
+        ensures { names_total result ≡ count }
+    {
+        FileNames {
+            arguments: Arguments::new(words),
+            count,
+        }
+    }
+
+    /// How many there are.
+    pub fn total(&self) -> usize
+        ensures { result ≡ names_total self.now }
+    {
+        self.count
+    }
+}
+
+impl<'a> Iterator for FileNames<'a> {
+    ghost use Rattle.std.specs.Iterator.{at_most};
+    ghost use Rattle.claxon_command_line.specs.Arguments.{words_left};
+
+    type Item = &'a str;
+
+    ghost remaining = { λ s. at_most (words_left s.arguments) };
+
+    fn next(&mut self) -> Option<&'a str> {
+        while let Some(argument) = self.arguments.next() {
+            match argument {
+                Argument::Operand(name) => return Some(name),
+                Argument::Option("--places") => {
+                    self.arguments.value();
+                }
+                Argument::Option(_) => {}
+            }
+        }
+        None
+    }
 }
 
 /// How files are verified, and what is printed.
@@ -32,6 +83,8 @@ pub struct Options {
     pub print: PrintOptions,
     /// A folder stands for the FLAC files below it.
     pub is_recursive: bool,
+    /// How many places of a file are told after the first.
+    pub more_places: usize,
 }
 
 /// What the words ask for. With a list there are no operands, and without one there is one or more.
@@ -48,6 +101,7 @@ pub fn parse<'a>(words: &'a [String]) -> Result<VerifyRequest<'a>, Notice<'a>>
             has_summary: false,
         },
         is_recursive: false,
+        more_places: 999,
     };
     let (mut list, mut count) = (None, 0usize);
     while let Some(argument) = arguments.next() {
@@ -58,12 +112,24 @@ pub fn parse<'a>(words: &'a [String]) -> Result<VerifyRequest<'a>, Notice<'a>>
                 None => return Err(Notice::Usage),
             },
             Argument::Option("--files0-from") => return Err(Notice::Usage),
+            Argument::Option("--places") => match arguments.value() {
+                Some(number) => options.more_places = more_places(number)?,
+                None => return Err(Notice::Usage),
+            },
             Argument::Option(option) => options = with_option(options, option)?,
             Argument::Operand(_) => count = count.saturating_add(1),
         }
     }
     let files = files_of(words, list, count)?;
     Ok(VerifyRequest { files, options })
+}
+
+// How many places are told after the first, where at most so many are: one or more.
+fn more_places<'a>(number: &str) -> Result<usize, Notice<'a>> {
+    match number.parse::<usize>() {
+        Ok(count) if count > 0 => Ok(count - 1),
+        _ => Err(Notice::Usage),
+    }
 }
 
 // The options, with one more.
@@ -91,7 +157,7 @@ fn files_of<'a>(
 {
     match list {
         Some(name) if count == 0 => Ok(NamedFiles::List(name)),
-        None if count > 0 => Ok(NamedFiles::Operands(Operands::new(words, count))),
+        None if count > 0 => Ok(NamedFiles::Operands(FileNames::new(words, count))),
         _ => Err(Notice::Usage),
     }
 }

@@ -132,6 +132,28 @@ fn damaged_streams(rt: HostRuntime) -> std::result::Result<(), Fail> {
     Ok(())
 }
 
+// With the value of each frame damaged in turn: the call for that frame names the fault, and no other block is lost.
+#[test]
+fn blocks_after_a_fault(rt: HostRuntime) -> std::result::Result<(), Fail> {
+    let alloc = rt.alloc();
+    for damaged in 0..8usize {
+        let mut bytes = stream(11, 128);
+        bytes[78 + damaged * 11] ^= 0x21;
+        let mut flac = SeekableReader::new(alloc, Cursor::new(bytes.as_slice()))
+            .ok()
+            .ok_or("head")?;
+        for frame in 0..8u64 {
+            let is_right = match next_block(alloc, &mut flac) {
+                Ok(block) => block == (frame * 16, frame as i32 + 1),
+                Err(Error::FormatError(_)) => frame == damaged as u64,
+                Err(_) => false,
+            };
+            assert!(rt; is_right, "frame {frame}, damaged {damaged}");
+        }
+    }
+    Ok(())
+}
+
 // The header of a seek table, and two points of 16 samples: sample 0 at byte 44, and sample 64 at byte 0.
 #[rattlefmt::skip]
 const LYING_TABLE: [u8; 40] = [

@@ -3,10 +3,10 @@ ghost use Rattle.std.specs.Prelude.{◌≡◌, length};
 ghost use Rattle.claxon.specs.Heads.{stream_marker};
 ghost use Rattle.claxon.specs.read.Heads.{marker_at};
 ghost use Rattle.claxon.specs.read.Metadata.{block_header_at};
-ghost use Rattle.claxon.specs.Gives.{Gives, GivesOrOutOfMemory};
+ghost use Rattle.claxon.specs.Gives.{Gives};
 ghost use Rattle.claxon.specs.MetadataBlock.{BlockHasBounds, content_view};
 ghost use Rattle.claxon.specs.MetadataBlocks.{skipped};
-ghost use Rattle.claxon.specs.ReadMetadataBlock.{ContentOutOfMemoryAfterLengths, ResultHasBounds};
+ghost use Rattle.claxon.specs.ReadMetadataBlock.{ResultHasBounds};
 ghost use Rattle.claxon.specs.State.{bytes_in};
 ghost use Rattle.claxon_stream.specs.HeadPart.{
   ContentIsReadAs,
@@ -34,6 +34,7 @@ use std::io::Cursor;
 const MAX_CONTENT: u32 = 10 * 1024 * 1024;
 
 // The header of a metadata block.
+#[repr(C)]
 #[derive(Clone, Copy, Debug)]
 pub(crate) struct BlockHeader {
     pub(crate) is_last: bool,

@@ -13,12 +13,12 @@ const MAX_BLOCKS: u32 = 65536;
 // What the metadata blocks so far allow.
 #[derive(Clone, Copy, Debug)]
 pub(crate) struct Rules {
-    options: FlacReaderOptions,
+    pub(crate) options: FlacReaderOptions,
     // Whether there was a streaminfo: it is the first block.
-    has_info: bool,
-    has_comment: bool,
+    pub(crate) has_info: bool,
+    pub(crate) has_comment: bool,
     // How many blocks more there may be.
-    most: u32,
+    pub(crate) most: u32,
 }
 
 impl Rules {

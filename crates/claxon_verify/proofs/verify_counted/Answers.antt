@@ -3,7 +3,7 @@ use Rattle.std.proofs.lemmas.Result.{err_from_is_err_and}
 use Rattle.claxon.specs.StreamInfos.{StreamInfo}
 use Rattle.claxon_verify.specs.Verify.{counted_bytes, position_of}
 use Rattle.claxon_verify.proofs.Walking.{front_from_start}
-use Rattle.claxon_verify.proofs.Verified.{all_counted, counted_places, head_consumed, no_head, not_counted}
+use Rattle.claxon_verify.proofs.Verified.{all_counted, counted_places, head_consumed, no_head, few_kept, not_counted}
 use Rattle.claxon_command_line.proofs.Showing.{started_quietly}
 use Rattle.claxon_verify.proofs.verify_counted.Goals as goal
 
@@ -16,7 +16,7 @@ returns-clause-promises g c =
     let b = counted_bytes source c.walk_frames.new.input in
     let h = head_consumed a m (c.in_ok-info.info, c.in_ok-info.unsupported) (position_of c.read_head.new.input) e.gives e.has_bounds (front_from_start source c.args.input.now c.read_head.new.input c.requires e.gives) in
     let r = c.report_of.ensures in
-    all_counted b h c.args.computes_md5 c.in_ok-info.info c.in_ok-walk.walk c.report_of.result refl r.unsupported c.in_ok-walk.ensures.ok r.info r.frames r.samples r.first r.sizes r.md5_is_judged r.md5_is_shown c.in_ok-info.unsupported r.unsupported r.is_right
+    all_counted b h c.args.computes_md5 c.in_ok-info.info c.in_ok-walk.walk c.report_of.result refl r.unsupported c.in_ok-walk.ensures.ok r.info r.frames r.samples r.kept r.sizes r.md5_is_judged r.md5_is_shown c.in_ok-info.unsupported r.unsupported r.is_right
 
 pub returns-clause-places_are_counted : goal.returns-clause-places_are_counted
 returns-clause-places_are_counted g c =
@@ -26,7 +26,10 @@ returns-clause-places_are_counted g c =
     let m = counted_bytes source c.read_head.new.input in
     let b = counted_bytes source c.walk_frames.new.input in
     let h = head_consumed a m (c.in_ok-info.info, c.in_ok-info.unsupported) (position_of c.read_head.new.input) e.gives e.has_bounds (front_from_start source c.args.input.now c.read_head.new.input c.requires e.gives) in
-    counted_places b h c.in_ok-walk.walk c.report_of.result c.in_ok-walk.ensures.places c.report_of.ensures.count
+    let r = c.report_of.ensures in
+    let most = c.in_ok-walk.ensures.few in
+    counted_places b h c.args.computes_md5 c.in_ok-info.info c.in_ok-walk.walk c.report_of.result refl r.unsupported c.in_ok-walk.ensures.ok r.info r.frames r.samples r.kept r.sizes r.md5_is_judged r.md5_is_shown c.in_ok-info.unsupported r.unsupported r.is_right c.args.more
+    (few_kept most.0 most.1 r.few)
 
 pub returns-clause-loans : goal.returns-clause-loans
 returns-clause-loans g c = c.in_ok-walk.ensures.loans ∙ c.in_ok-info.ensures.gives.loans

@@ -7,12 +7,12 @@ use Rattle.claxon_blocks.specs.Frames.{decoder_answer, frame_block}
 use Rattle.claxon_verify.specs.Verify.{counted_bytes}
 use Rattle.claxon_verify.specs.declared.BytesRead.{BytesRead}
 use Rattle.claxon_command_line.proofs.Showing.{shown_quietly, shown_total_same}
-use Rattle.claxon_verify.proofs.Walking.{cut_found, cut_places, eof_found, eof_places, fault_added, frame_added, frame_as, frame_exceeds, none_so_far, position_after, read_as}
+use Rattle.claxon_verify.proofs.Walking.{at_eof, cut_found, eof_found, fault_added, frame_added, end_few, end_more, fault_few, frame_as, frame_exceeds, frame_few, none_few, none_so_far, same_more, position_after, read_as}
 use Rattle.claxon_verify.proofs.walk_frames.Goals.{in-Ok-Some+in_ok-walk-in-Ok-Some, in-Err+in_ok-walk-in-Err+else-is_last}
 use Rattle.claxon_verify.proofs.walk_frames.Goals as goal
 
 pub loop-init : goal.loop-init
-loop-init g c = record { so_far = none_so_far _ _ _ _ _ _ c.new-walk.ensures.begins_walk; quiet = λ none. (refl, refl); total = refl }
+loop-init g c = record { so_far = none_so_far _ _ _ _ _ _ _ c.new-walk.ensures.begins_walk; quiet = λ none. (refl, refl); total = refl; more = c.new-walk.ensures.begins_walk.more_is; few = none_few _ _ c.new-walk.ensures.begins_walk.none }
 
 pub loop-preserved : goal.loop-preserved
 loop-preserved g c =
@@ -34,8 +34,7 @@ loop-preserved g c =
         | in-Err+in_ok-walk-in-Err+else-is_last w ↦ (
             let k = w.in_ok-walk-in-Err.ensures.ok in
             let small = rw byte at w.with_fault.ensures.fits in
-            let small_end = rw end at w.with_fault.ensures.end_fits in
-            rw w.walk-is (fault_added h (λ known front e. byte ∙ position_after g.R.ReadBytes.source c.args.input.now c.loop.input known (h.known known) (h.values known) small front e) w.in-Err.fault b bound (λ known after values front e. end ∙ position_after g.R.ReadBytes.source c.args.input.now c.read_frame-read.new.input known after values small_end front e) (read_as {b = b} (ap (decoder_answer frame_block) w.in-Err.is) read) w.in-Err.ensures.tells_of_32_bits (sym w.is_io_error-is_last.ensures ∙ w.if-is_last.false) k.0 k.1)
+            rw w.walk-is (fault_added h {end = _} (λ known front e. byte ∙ position_after g.R.ReadBytes.source c.args.input.now c.loop.input known (h.known known) (h.values known) small front e) w.in-Err.fault b (read_as {b = b} (ap (decoder_answer frame_block) w.in-Err.is) read) w.in-Err.ensures.tells_of_32_bits (sym w.is_io_error-is_last.ensures ∙ w.if-is_last.false) k.0 k.1)
             )
       ];
       quiet = elim c.match-read.branch [
@@ -45,6 +44,14 @@ loop-preserved g c =
       total = elim c.match-read.branch [
         | in-Ok-Some+in_ok-walk-in-Ok-Some w ↦ rw w.progress-is (shown_total_same c.loop.progress w.show.new.self _ w.show.ensures.shows_percentage ∙ c.loop.invariant.total)
         | in-Err+in_ok-walk-in-Err+else-is_last w ↦ rw w.progress-is c.loop.invariant.total
+      ];
+      more = elim c.match-read.branch [
+        | in-Ok-Some+in_ok-walk-in-Ok-Some w ↦ rw w.walk-is (w.in_ok-walk-in-Ok-Some.ensures.ok.places.more ∙ c.loop.invariant.more)
+        | in-Err+in_ok-walk-in-Err+else-is_last w ↦ rw w.walk-is (same_more w.in_ok-walk-in-Err.ensures.ok.1 ∙ c.loop.invariant.more)
+      ];
+      few = elim c.match-read.branch [
+        | in-Ok-Some+in_ok-walk-in-Ok-Some w ↦ rw w.walk-is (frame_few w.in_ok-walk-in-Ok-Some.ensures.ok c.loop.invariant.more c.loop.invariant.few)
+        | in-Err+in_ok-walk-in-Err+else-is_last w ↦ rw w.walk-is (fault_few w.in_ok-walk-in-Err.ensures.ok.1 c.loop.invariant.few)
       ];
     }
 
@@ -58,32 +65,27 @@ returns-in_err-walk-in-Ok-Some-clause-err g c =
 
 pub returns-in-Ok-None-clause-ok : goal.returns-in-Ok-None-clause-ok
 returns-in-Ok-None-clause-ok g c =
-    let b = counted_bytes g.R.ReadBytes.source c.read_frame-read.new.input in
+    let h = c.loop.invariant.so_far in
+    let source = g.R.ReadBytes.source in
+    let b = counted_bytes source c.read_frame-read.new.input in
+    let bound : c.loop.counter + 1 < 2 ^ 64 = omega arith in
     let is = ap (decoder_answer frame_block) (c.in-Ok-None.is ∙ ap (λ (z : Option (DecodedFrame _)). Ok z) c.in-Ok-None.field-0-is) in
-    eof_found c.loop.invariant.so_far b (read_as {b = b} is c.read_frame-read.ensures.is_read) c.at_end.ensures.ends_walk
+    let end = ap (λ (p : BytesRead). p.bytes) c.value-end.ensures in
+    let small = rw end at c.at_end.ensures.end_fits in
+    eof_found h _ b bound (read_as {b = b} is c.read_frame-read.ensures.is_read) (λ known. end ∙ at_eof source c.args.input.now c.loop.input c.read_frame-read.new.input is c.read_frame-read.ensures.is_read known (h.known known) (h.values known) small) c.at_end.ensures.ends_walk
 
 pub returns-then-is_last-clause-ok : goal.returns-then-is_last-clause-ok
 returns-then-is_last-clause-ok g c =
     let h = c.loop.invariant.so_far in
     let b = counted_bytes g.R.ReadBytes.source c.read_frame-read.new.input in
-    let byte = ap (λ (p : BytesRead). p.bytes) c.value-start.ensures in
-    let small = rw byte at c.with_fault.ensures.fits in
-    cut_found h (λ known front e. byte ∙ position_after g.R.ReadBytes.source c.args.input.now c.loop.input known (h.known known) (h.values known) small front e) c.in-Err.fault b (read_as {b = b} (ap (decoder_answer frame_block) c.in-Err.is) c.read_frame-read.ensures.is_read) c.in-Err.ensures.tells_of_32_bits
-    (sym c.is_io_error-is_last.ensures ∙ c.if-is_last.true) c.in_ok-walk-in-Err.ensures.ok.1
-
-pub returns-in-Ok-None-clause-places : goal.returns-in-Ok-None-clause-places
-returns-in-Ok-None-clause-places g c =
-    let b = counted_bytes g.R.ReadBytes.source c.read_frame-read.new.input in
-    let bound : c.loop.counter + 1 < 2 ^ 64 = omega arith in
-    let is = ap (decoder_answer frame_block) (c.in-Ok-None.is ∙ ap (λ (z : Option (DecodedFrame _)). Ok z) c.in-Ok-None.field-0-is) in
-    eof_places c.loop.invariant.so_far b bound (read_as {b = b} is c.read_frame-read.ensures.is_read) c.at_end.ensures.ends_walk
-
-pub returns-then-is_last-clause-places : goal.returns-then-is_last-clause-places
-returns-then-is_last-clause-places g c =
-    let h = c.loop.invariant.so_far in
-    let b = counted_bytes g.R.ReadBytes.source c.read_frame-read.new.input in
     let bound : c.loop.counter + 1 < 2 ^ 64 = omega arith in
     let byte = ap (λ (p : BytesRead). p.bytes) c.value-start.ensures in
     let small = rw byte at c.with_fault.ensures.fits in
-    cut_places h (λ known front e. byte ∙ position_after g.R.ReadBytes.source c.args.input.now c.loop.input known (h.known known) (h.values known) small front e) c.in-Err.fault b bound (read_as {b = b} (ap (decoder_answer frame_block) c.in-Err.is) c.read_frame-read.ensures.is_read)
+    cut_found h (λ known front e. byte ∙ position_after g.R.ReadBytes.source c.args.input.now c.loop.input known (h.known known) (h.values known) small front e) c.in-Err.fault b bound (read_as {b = b} (ap (decoder_answer frame_block) c.in-Err.is) c.read_frame-read.ensures.is_read) c.in-Err.ensures.tells_of_32_bits
     (sym c.is_io_error-is_last.ensures ∙ c.if-is_last.true) c.in_ok-walk-in-Err.ensures.ok.1
+
+pub returns-in-Ok-None-clause-few : goal.returns-in-Ok-None-clause-few
+returns-in-Ok-None-clause-few g c = (end_more c.at_end.ensures.ends_walk ∙ c.loop.invariant.more, end_few c.at_end.ensures.ends_walk c.loop.invariant.few)
+
+pub returns-then-is_last-clause-few : goal.returns-then-is_last-clause-few
+returns-then-is_last-clause-few g c = (same_more c.in_ok-walk-in-Err.ensures.ok.1 ∙ c.loop.invariant.more, fault_few c.in_ok-walk-in-Err.ensures.ok.1 c.loop.invariant.few)

@@ -51,6 +51,7 @@ const NO_NOTES: Notes = Notes {
     has_other_block_size: false,
     has_other_frame_size: false,
     has_byte_left: false,
+    has_failed_read: false,
     changed_block_size: None,
 };
 
@@ -58,6 +59,7 @@ const ALL_NOTES: Notes = Notes {
     has_other_block_size: true,
     has_other_frame_size: true,
     has_byte_left: true,
+    has_failed_read: false,
     changed_block_size: Some(BlockSizes {
         first: 4096,
         other: 1024,

@@ -93,14 +93,16 @@ fn is_damage(alloc: Global, stream: Stream, place: &Place, want: &str) -> Result
 }
 
 #[rattlefmt::skip]
-const DAMAGES: [(Damage, &str); 8] = [
+const DAMAGES: [(Damage, &str); 10] = [
     (Damage::Channels(2), "2 channels, but the streaminfo says 1"),
     (Damage::BitDepth(24), "24 bits per sample, but the streaminfo says 16"),
     (Damage::SampleRate(44100), "44100 Hz, but the streaminfo says 48000"),
     (Damage::Missing(Gap { count: 1, is_variable: false }), "1 frame is missing"),
     (Damage::Missing(Gap { count: 4096, is_variable: true }), "4096 samples are missing"),
-    (Damage::Repeated(Gap { count: 3, is_variable: false }), "3 frames are repeated"),
-    (Damage::Repeated(Gap { count: 1, is_variable: true }), "1 sample is repeated"),
+    (Damage::Repeated, "frames are repeated"),
+    (Damage::OutOfOrder, "frames are out of order"),
+    (Damage::BlockingStrategy, "the blocking strategy differs from the first frame's"),
+    (Damage::Beyond, "frames after the streaminfo's last sample"),
     (Damage::WideSample, "a sample has more bits than the streaminfo says"),
 ];
 
@@ -118,10 +120,11 @@ fn damages(rt: HostRuntime) -> Result<(), Fail> {
 
 // How many bytes are after the last frame, what they are, and what is said of them.
 #[rattlefmt::skip]
-const ENDS: [(u64, Trailing, &str); 4] = [
+const ENDS: [(u64, Trailing, &str); 5] = [
     (128, Trailing::Id3v1, "128 bytes after the last frame: an ID3v1 tag"),
     (40, Trailing::Ape, "40 bytes after the last frame: an APE tag"),
     (2, Trailing::Zeros, "2 bytes after the last frame: zeros"),
+    (9000, Trailing::SecondStream, "9000 bytes after the last frame: a second stream begins"),
     (64, Trailing::Other, "64 bytes after the last frame"),
 ];
 

@@ -1,0 +1,6 @@
+pub mod Clock
+pub mod Search
+pub mod Seeker
+pub mod SeekLaws
+pub mod Sought
+pub mod Timeline

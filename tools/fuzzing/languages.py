@@ -1,0 +1,429 @@
+"""What the library for C, its claxon_stream.h, the crate for Rust and the module for Python say of
+a stream in pieces: it has to be the same, and what the library says of all bytes at once.
+
+The crate is asked by its example `events`, and claxon_stream.h by stream_calls.c in this folder.
+"""
+import ctypes
+import functools
+import io
+import os
+import re
+import struct
+import subprocess
+import sys
+import tempfile
+from array import array
+from pathlib import Path
+from random import Random
+from typing import Any, Callable, Iterable, Iterator, List, NamedTuple, Optional, Tuple
+
+from fuzzing import finding, mutation
+from fuzzing.mutation import Pick
+from repository.crates import TOP
+
+sys.path.insert(0, str(TOP / "python"))
+import claxon  # noqa: E402
+from claxon import _calls, _errors  # noqa: E402
+from claxon._calls import NEED_MORE, NO_MORE, OK  # noqa: E402
+
+# A block: its time, channels, duration, sample rate and bit depth, and its samples, channel after
+# channel. A fault of the head or of a frame: its position, kind and text. The bytes that are
+# skipped after it, or None where no frame is left.
+Event = Tuple[Any, ...]
+Events = List[Event]
+Pieces = List[int]
+
+KINDS = {1: "FormatError", 2: "Unsupported", 3: "InputEnds", 4: "OutOfMemory"}
+UNLIMITED = (1 << 64) - 1
+library = _calls.library
+
+
+def fault_of(status: int, text: bytes) -> Tuple[str, str]:
+    """The kind and the text of a fault. That the bytes end has other texts in other languages."""
+    kind = KINDS.get(status, str(status))
+    return kind, "" if kind == "InputEnds" else text.decode()
+
+
+def block_event(block: _calls.Block, samples: bytes) -> Event:
+    return ("block", *finding.fields_of(block), samples[: 4 * block.channels * block.duration])
+
+
+def pieces_of(rng: Random, length: int) -> Pieces:
+    """Lengths of pieces: of a byte, of any, or all at once."""
+    most = rng.choice((1, 2, 7, 100, 1460, length + 1))
+    pieces, left = [], length
+    while left > 0:
+        pieces.append(rng.randint(1, most))
+        left -= pieces[-1]
+    return pieces
+
+
+def cuts_of(data: bytes, pieces: Pieces) -> Iterator[bytes]:
+    at = 0
+    for piece in pieces:
+        yield data[at : at + piece]
+        at += piece
+    yield data[at:]
+
+
+# ---- the library for C
+
+
+class Buffers:
+    """What a call writes to."""
+
+    def __init__(self) -> None:
+        self.block, self.error = _calls.Block(), ctypes.create_string_buffer(128)
+        self.samples = array("i", bytes(4 * 8 * 65535))
+
+    def arguments(self) -> List[Any]:
+        address, count = self.samples.buffer_info()
+        return [address, count, self.block, self.error, len(self.error)]
+
+    def event(self) -> Event:
+        count = self.block.channels * self.block.duration
+        return block_event(self.block, self.samples[:count].tobytes())
+
+
+BUFFERS = Buffers()
+
+
+def opened(data: bytes) -> Tuple[Optional[_calls.Info], Events]:
+    """What is known of the stream, or the fault of its head."""
+    info, error = _calls.Info(), BUFFERS.error
+    status = library.claxon_open(data, len(data), info, error, len(error))
+    if status == OK:
+        return info, []
+    return None, [("head", *fault_of(status, error.value))]
+
+
+def in_memory(data: bytes, info: _calls.Info) -> Events:
+    """What the calls for whole bytes say, by which those for pieces are specified."""
+    events: Events = []
+    at, memory = ctypes.c_size_t(info.first_frame), ctypes.c_char_p(data)
+    while True:
+        arguments = BUFFERS.arguments()
+        status = library.claxon_next_block_planar(memory, len(data), at, info, *arguments)
+        if status == OK:
+            events.append(BUFFERS.event())
+            continue
+        if status == NO_MORE:
+            return events
+        events.append(("fault", at.value, *fault_of(status, BUFFERS.error.value)))
+        begin, at.value = at.value, min(at.value + 1, len(data))
+        budget = ctypes.c_uint64(UNLIMITED)
+        found = library.claxon_find_frame(memory, len(data), at, info, budget, BUFFERS.block)
+        events.append(("skipped", at.value - begin if found == OK else None))
+        if found != OK:
+            return events
+
+
+class Held:
+    """Bytes that come in pieces."""
+
+    def __init__(self, data: bytes, pieces: Pieces) -> None:
+        self._data = data
+        self._cuts = [len(cut) for cut in cuts_of(data, pieces)]
+        self.end = 0
+
+    def arguments(self, position: int) -> List[Any]:
+        """The bytes from there on."""
+        start = min(position, self.end)
+        held = self._data[start : self.end]
+        return [held, len(held), start, self.end == len(self._data)]
+
+    def read(self) -> None:
+        self.end += self._cuts.pop(0) if self._cuts else 0
+
+
+def by_calls(data: bytes, pieces: Pieces, info: _calls.Info) -> Tuple[Events, bool]:
+    """What the calls for pieces say, and whether the search passed a header over."""
+    events: Events = []
+    held, frames, search = Held(data, pieces), _calls.Frames(), _calls.Search()
+    library.claxon_frames_start(frames, info.first_frame)
+    library.claxon_search_start(search, info.first_frame)
+    found = ctypes.c_uint64()
+    while True:
+        begin, bytes_held = frames.position, held.arguments(frames.position)
+        status = library.claxon_frames_next_planar(
+            frames, *bytes_held, info, *BUFFERS.arguments()
+        )
+        if status == NEED_MORE:
+            held.read()
+        elif status == OK:
+            events.append(BUFFERS.event())
+        elif status == NO_MORE:
+            return events, bool(search.has_passed_over)
+        else:
+            events.append(("fault", begin, *fault_of(status, BUFFERS.error.value)))
+            library.claxon_search_go_on(search, begin + 1)
+            while status not in (OK, NO_MORE):
+                bytes_held = held.arguments(search.position)
+                status = library.claxon_search_next(
+                    search, *bytes_held, info, found, BUFFERS.block
+                )
+                if status == NEED_MORE:
+                    held.read()
+            events.append(("skipped", found.value - begin if status == OK else None))
+            if status != OK:
+                return events, bool(search.has_passed_over)
+            library.claxon_frames_go_on(frames, found.value)
+
+
+@functools.lru_cache(maxsize=1)
+def stream_calls() -> ctypes.CDLL:
+    """The calls of claxon_stream.h. OSError where they can't be built."""
+    name = Path(library._name).resolve()
+    with tempfile.TemporaryDirectory() as folder:
+        built, source = Path(folder, "stream_calls.so"), Path(__file__).with_name("stream_calls.c")
+        words = ["cc", "-O1", "-fPIC", "-shared", "-I", str(TOP / "c"), "-o", str(built)]
+        subprocess.run([*words, str(source), str(name)], check=True)
+        found = ctypes.CDLL(str(built))
+    found.stream_begin.restype = ctypes.c_void_p
+    found.stream_block.restype = ctypes.POINTER(_calls.Block)
+    found.stream_samples.restype = ctypes.c_void_p
+    found.stream_position.restype = ctypes.c_uint64
+    found.stream_error.restype = ctypes.c_char_p
+    for call in ("end", "feed_end", "open", "next_block", "resync", "block", "samples", "position"):
+        getattr(found, f"stream_{call}").argtypes = [ctypes.c_void_p]
+    found.stream_error.argtypes = [ctypes.c_void_p]
+    found.stream_feed.argtypes = [ctypes.c_void_p, ctypes.c_char_p, ctypes.c_size_t]
+    return found
+
+
+def by_stream(data: bytes, pieces: Pieces) -> Events:
+    """What claxon_stream.h says."""
+    calls, cuts = stream_calls(), cuts_of(data, pieces)
+    stream = ctypes.c_void_p(calls.stream_begin())
+
+    def answered(call: Callable[[ctypes.c_void_p], int]) -> int:
+        while True:
+            status = call(stream)
+            if status != NEED_MORE:
+                return status
+            cut = next(cuts, None)
+            if cut is None:
+                calls.stream_feed_end(stream)
+            else:
+                calls.stream_feed(stream, cut, len(cut))
+
+    try:
+        status = answered(calls.stream_open)
+        if status != OK:
+            return [("head", *fault_of(status, calls.stream_error(stream)))]
+        return list(stream_events(calls, stream, answered))
+    finally:
+        calls.stream_end(stream)
+
+
+def stream_events(
+    calls: ctypes.CDLL,
+    stream: ctypes.c_void_p,
+    answered: Callable[[Callable[[ctypes.c_void_p], int]], int],
+) -> Iterator[Event]:
+    while True:
+        status = answered(calls.stream_next_block)
+        if status == NO_MORE:
+            return
+        begin = calls.stream_position(stream)
+        if status == OK:
+            block = calls.stream_block(stream).contents
+            size = 4 * block.channels * block.duration
+            yield block_event(block, ctypes.string_at(calls.stream_samples(stream), size))
+            continue
+        yield ("fault", begin, *fault_of(status, calls.stream_error(stream)))
+        status = answered(calls.stream_resync)
+        yield ("skipped", calls.stream_position(stream) - begin if status == OK else None)
+        if status != OK:
+            return
+
+
+# ---- the module for Python
+
+
+def named(error: claxon.Error) -> Tuple[str, str]:
+    """The kind and the text of an exception, as the library has them: some faults are told as what
+    isn't supported."""
+    kind, text = type(error).__name__, str(error)
+    if text == _errors._32_BITS:
+        text = _errors._RESERVED
+    if text in (*_errors._ALLOWED, _errors._RESERVED):
+        kind = "FormatError"
+    return kind, "" if kind == "InputEnds" else text
+
+
+class PieceFile(io.RawIOBase):
+    """A file whose reads give the pieces."""
+
+    def __init__(self, data: bytes, pieces: Pieces) -> None:
+        self._cuts = [cut for cut in cuts_of(data, pieces) if cut]
+
+    def read(self, most: int = -1) -> bytes:
+        if not self._cuts:
+            return b""
+        cut = self._cuts.pop(0)
+        if len(cut) > most:
+            self._cuts.insert(0, cut[most:])
+        return cut[:most]
+
+
+def python_events(
+    stream: "claxon.Flac | claxon.Feed", more: Callable[[], bool]
+) -> Iterator[Event]:
+    """What a stream says. `more` hands in bytes, if it can."""
+    while True:
+        try:
+            for block in stream.blocks():
+                fields = (block.time, block.channels, block.duration)
+                rate, bits = block.sample_rate or 0, block.bits_per_sample or 0
+                yield ("block", *fields, rate, bits, block.planar.tobytes())
+            if not more():
+                return
+        except claxon.Error as error:
+            if isinstance(stream, claxon.Feed) and not stream._head.is_over():
+                yield ("head", *named(error))
+                return
+            yield ("fault", error.position, *named(error))
+            skipped = stream.resync()
+            while skipped is None and more():
+                skipped = stream.resync()
+            yield ("skipped", skipped)
+            if skipped is None:
+                return
+
+
+def by_file(data: bytes, pieces: Pieces) -> Events:
+    """What claxon.Flac says."""
+    try:
+        flac = claxon.Flac(PieceFile(data, pieces))
+    except claxon.Error as error:
+        return [("head", *named(error))]
+    return list(python_events(flac, lambda: False))
+
+
+def by_feed(data: bytes, pieces: Pieces) -> Events:
+    """What claxon.Feed says."""
+    feed, cuts = claxon.Feed(), cuts_of(data, pieces)
+
+    def more() -> bool:
+        cut, was_open = next(cuts, None), not feed._window.has_ended
+        if cut is not None:
+            feed.feed(cut)
+        elif was_open:
+            feed.close()
+        return was_open
+
+    return list(python_events(feed, more))
+
+
+# ---- the crate for Rust
+
+
+def events_program() -> Path:
+    """The example of the crate. `cargo build --release --example events` builds it."""
+    return TOP / "rust" / "target" / "release" / "examples" / "events"
+
+
+@functools.lru_cache(maxsize=1)
+def program_of(process: int) -> "subprocess.Popen[bytes]":
+    """It, for this process of ours."""
+    return subprocess.Popen(
+        [str(events_program())], stdin=subprocess.PIPE, stdout=subprocess.PIPE
+    )
+
+
+def by_crate(data: bytes, pieces: Pieces) -> List[Events]:
+    """What FlacReader says, without positions, and Decoder."""
+    program = program_of(os.getpid())
+    assert program.stdin and program.stdout
+    numbers = [len(pieces), *pieces, len(data)]
+    program.stdin.write(struct.pack(f"<{len(numbers)}I", *numbers) + data)
+    program.stdin.flush()
+    found: List[Events] = [[]]
+    while True:
+        line = program.stdout.readline().decode()
+        if not line:
+            raise ChildProcessError("the example events ended")
+        kind, *words = line.split()
+        if kind == "end":
+            if len(found) == 2:
+                return found
+            found.append([])
+        elif kind == "block":
+            time, channels, duration, rate, bits = map(int, words)
+            samples = program.stdout.read(4 * channels * duration)
+            found[-1].append((kind, time, channels, duration, rate, bits, samples))
+        elif kind == "skipped":
+            found[-1].append((kind, None if words[0] == "all" else int(words[0])))
+        else:
+            position = [int(words.pop(0))] if kind == "fault" and words[0].isdigit() else []
+            found[-1].append((kind, *position, words[0], " ".join(words[1:])))
+
+
+# ---- all of them
+
+
+class Answer(NamedTuple):
+    """Who was asked, and what it said."""
+
+    name: str
+    events: Events
+    has_positions: bool = True
+
+
+def without_positions(events: Events) -> Events:
+    return [(event[0], *event[2:]) if event[0] == "fault" else event for event in events]
+
+
+def difference(expected: Events, answer: Answer) -> Optional[str]:
+    """How the answer differs, or None."""
+    if not answer.has_positions:
+        expected = without_positions(expected)
+    for wanted, found in zip(expected, answer.events):
+        if wanted != found:
+            what = "another" if wanted[0] == found[0] else f"{found[0]} for"
+            return f"{answer.name}: {what} {wanted[0]}"
+    if len(expected) != len(answer.events):
+        return f"{answer.name}: {'more' if len(answer.events) > len(expected) else 'fewer'} events"
+    return None
+
+
+def answers_of(data: bytes, pieces: Pieces) -> Iterable[Answer]:
+    yield Answer("claxon_stream.h", by_stream(data, pieces))
+    yield Answer("Flac", by_file(data, pieces))
+    yield Answer("Feed", by_feed(data, pieces))
+    reader, decoder = by_crate(data, pieces)
+    yield Answer("FlacReader", reader, has_positions=False)
+    yield Answer("Decoder", decoder)
+
+
+def compare(rng: Random, data: bytes) -> Tuple[List[str], List[str]]:
+    """The kinds of difference in what is said of a stream, and outcomes to count."""
+    pieces = pieces_of(rng, len(data))
+    info, expected = opened(data)
+    kinds, passes_over = [], False
+    if info:
+        expected, passes_over = by_calls(data, pieces, info)
+        if not passes_over and in_memory(data, info) != expected:
+            kinds.append("claxon_frames_next: another answer than of all bytes")
+    found = (difference(expected, answer) for answer in answers_of(data, pieces))
+    kinds += [kind for kind in found if kind]
+    outcomes = ["a head with a fault" if info is None else "a head"]
+    outcomes += [event[0] for event in expected] + ["a header passed over"] * passes_over
+    return kinds, outcomes
+
+
+def with_stray_byte(rng: Random, data: bytes) -> bytes:
+    """The stream with a byte before one of its sync codes, so that a fault shows within a frame."""
+    codes = [match.start() for match in re.finditer(rb"\xff[\xf8\xf9]", data)]
+    at = rng.choice(codes) if codes else len(data)
+    return data[:at] + rng.choice((b"\xff", b"\0")) + data[at:]
+
+
+def made(rng: Random, pick: Pick) -> bytes:
+    """A stream: as for all decoders, or as for searches."""
+    if rng.random() < 0.5:
+        data = finding.made(rng, pick)
+    else:
+        data = mutation.make(rng, pick)[: finding.MAX_SIZE]
+    return with_stray_byte(rng, data) if rng.random() < 0.3 else data
