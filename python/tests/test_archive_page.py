@@ -297,7 +297,10 @@ class Real(Archive):
         self.assertEqual(found.open, [])
         self.assertEqual([file.bars for file in found.files], [[False], [True], [True], []])
         self.assertIn("the last 50 % are missing", "".join(found.files[2].text))
-        self.assertIn("16 (0:00) of 32 samples (0:00): ", "".join(found.files[2].text))
+        self.assertIn(
+            "16 (0:00) of 32 samples (0:00), 1 place at byte 53 after 16 samples (0:00): ",
+            "".join(found.files[2].text),
+        )
         marks = [mark for mark in found.marks if mark["class"] == "bad"]
         self.assertEqual(len(marks), 11)
         first = 53 * 1000 // len(ROWS["ten flipped bits"].data)

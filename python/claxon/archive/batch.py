@@ -63,6 +63,9 @@ _PLACES, _BETWEEN = b'"places":[', b'},{"start_byte":'
 _READ_FAILED = frozenset(os.strerror(number) for number in errno.errorcode)
 _READ_NOTE = "a read failed"
 
+# The number of places that are wanted of a file: its parts are those of all.
+_ALL_PLACES = str(2**40)
+
 # How the text begins of a file that ends inside a frame, and how many thousandths are said to be
 # missing at most.
 _CUT, _MOST_MISSING = "truncated", 99_000
@@ -291,7 +294,7 @@ def _run(program: str, version: str, files: List[File], turn: Turn) -> Tuple[Lis
             errors = stack.enter_context(tempfile.TemporaryFile())
         with turn:
             status = subprocess.call(
-                [program, "verify", "--json", "--files0-from", "-"],
+                [program, "verify", "--json", "--places", _ALL_PLACES, "--files0-from", "-"],
                 stdin=names,
                 stdout=output,
                 stderr=errors,
@@ -455,7 +458,8 @@ class _Places:
         )
         self.number += len(places)
         for place in places:
-            self._add_range(place["start_byte"], place["end_byte"])
+            if place["start_byte"] < self._size:
+                self._add_range(place["start_byte"], place["end_byte"])
 
     def _add_range(self, start: int, end: int) -> None:
         first = min(999, start * 1000 // self._size)

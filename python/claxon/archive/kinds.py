@@ -20,9 +20,11 @@ _BYTES = "only other bytes after the last frame"
 _AFTER = re.compile(r"[0-9]+ bytes? after the last frame(: .* tag$)?")
 _SAID = re.compile(r"the streaminfo says ([0-9]+) sample")
 
+_MISSING = r"(is|are) missing$"
+
 # What the damage of a frame or a gap says, and its kind.
 _FRAMES = (
-    (r"(is|are) missing$", "frames are missing"),
+    (_MISSING, "frames are missing"),
     (r"(is|are) repeated$", "frames are repeated"),
     (r"out of order$", "frames are out of order"),
     (r"^frames after the streaminfo's last sample$", _NUMBER),
@@ -63,7 +65,10 @@ def kind_of(row: Row) -> Kind:
 
 def is_cut(row: Row) -> bool:
     """Whether the file ends before its last frame does."""
-    if str(row["damage"]).startswith("truncated") or missing_part(row) > 0:
+    damage = str(row["damage"])
+    if damage.startswith("truncated") or missing_part(row) > 0:
+        return True
+    if re.search(_MISSING, damage) and row["sample"] == row["samples"]:
         return True
     has_end = row["places"] or row["samples"] is None or row["md5"] == "ok"
     return not has_end and row["samples"] < expected_samples(row)
