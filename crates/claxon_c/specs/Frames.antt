@@ -42,12 +42,14 @@ use Rattle.claxon_stream.specs.HeadDecoder.{PositionFits}
 use Rattle.claxon_stream.specs.declared.event.Event.{Event}
 use Rattle.claxon_stream.specs.declared.event.Event.TheVariants.{Cut, Decoded, End, Faulty, ReadOn}
 use Rattle.claxon_stream.specs.declared.frames.FrameDecoder.{FrameDecoder}
+use Rattle.claxon_c.specs.declared.frame.ClaxonFrame.{ClaxonFrame}
 use Rattle.claxon_c.specs.declared.frames.ClaxonFrames.{ClaxonFrames}
 use Rattle.claxon_c.specs.declared.heads.ClaxonInfo.{ClaxonInfo}
 use Rattle.claxon_c.specs.declared.next_block.ClaxonBlock.{ClaxonBlock}
 use Rattle.claxon_c.specs.HeldBytes.{PositionIsReported, says_yes}
 use Rattle.claxon_c.specs.Info.{known_info}
 use Rattle.claxon_c.specs.NextBlock.{SampleOrder, ShowsInfo}
+use Rattle.claxon_c.specs.ShownFrame.{no_frame, shown_frame}
 use Rattle.claxon_c.specs.Status.{
   ErrorIsReported,
   TextIsPut,
@@ -58,8 +60,8 @@ use Rattle.claxon_c.specs.Status.{
   ok,
 }
 
-abbrev pub needed_frames : FrameDecoder → ℕ → ClaxonFrames
-needed_frames decoder needed = record { decoder = decoder; needed = needed }
+abbrev pub needed_frames : FrameDecoder → ℕ → ClaxonFrame → ClaxonFrames
+needed_frames decoder needed last = record { decoder = decoder; needed = needed; last = last }
 
 -- They begin at the position, as with `FrameDecoder::new`.
 pub record FramesBegin (position : ℕ) (new : ClaxonFrames) : Type 0 where
@@ -67,6 +69,7 @@ pub record FramesBegin (position : ℕ) (new : ClaxonFrames) : Type 0 where
   pub starts_right : StartsRight new.decoder
   pub wastes_nothing : tries_wasted new.decoder ≡ 0
   pub needed : new.needed ≡ 0
+  pub last : new.last ≡ no_frame
 
 -- The event and the decoder after it have the clauses of `FrameDecoder::decode_next`, with an empty
 -- buffer: by the bytes that stand at the position `at`, and end the stream if `is_end` isn't 0.
@@ -94,6 +97,8 @@ module _ (info : ClaxonInfo) (at : ℕ) (bytes : List ℕ) (is_end : ℕ) where
     pub is_next : IsNextEvent (known_info info) at bytes is_end old.decoder
         (Ok (Decoded (record { info = said; block = found }))) new.decoder
     pub needed : new.needed ≡ 0
+    pub last :
+        new.last ≡ shown_frame (decoder_position old.decoder) (decoder_position new.decoder) said
     pub fits : length found.channels * duration_of found.channels ≤ capacity
     pub shows : ShowsInfo said shown
 
@@ -109,18 +114,20 @@ module _ (info : ClaxonInfo) (at : ℕ) (bytes : List ℕ) (is_end : ℕ) where
         × (capacity < length frame.block.channels * duration_of frame.block.channels)
         × (new ≡ old) × ShowsInfo frame.info shown × (after ≡ before)
     ShowsEvent (Ok End) next =
-        (status ≡ no_more) × (new ≡ needed_frames next 0) × (shown ≡ block) × (after ≡ before)
+        (status ≡ no_more) × (new ≡ needed_frames next 0 old.last) × (shown ≡ block)
+        × (after ≡ before)
     ShowsEvent (Ok (Faulty fault)) next =
-        ErrorIsReported fault.error status before after × (new ≡ needed_frames next 0)
+        ErrorIsReported fault.error status before after × (new ≡ needed_frames next 0 old.last)
         × (shown ≡ block)
     ShowsEvent (Ok (Cut position)) next =
         (status ≡ input_ends) × TextIsPut (codes "the bytes end") before after
-        × (new ≡ needed_frames next 0) × (shown ≡ block)
+        × (new ≡ needed_frames next 0 old.last) × (shown ≡ block)
     ShowsEvent (Ok (ReadOn needed)) next =
-        (status ≡ need_more) × (new ≡ needed_frames next needed.count) × (shown ≡ block)
+        (status ≡ need_more) × (new ≡ needed_frames next needed.count old.last) × (shown ≡ block)
         × (after ≡ before)
     ShowsEvent (Err e) next =
-        ErrorIsReported e status before after × (new ≡ needed_frames next 0) × (shown ≡ block)
+        ErrorIsReported e status before after × (new ≡ needed_frames next 0 old.last)
+        × (shown ≡ block)
 
     -- So it is shown of the next event.
     abbrev pub ShowsNext : Type 0

@@ -12,6 +12,7 @@ ghost use Rattle.claxon_c.specs.Frames.{
 };
 ghost use Rattle.claxon_c.specs.NextBlock.{InterleavedArePut, PlanarArePut};
 
+use crate::frame::ClaxonFrame;
 use crate::heads::ClaxonInfo;
 use crate::held::{position_fits, report_position};
 use crate::interleave::put_interleaved;
@@ -29,6 +30,8 @@ pub struct ClaxonFrames {
     decoder: FrameDecoder,
     /// After `NEED_MORE` how many bytes are needed at least, from the decoder's position on; else 0.
     pub needed: usize,
+    /// The frame that was decoded last.
+    pub last: ClaxonFrame,
 }
 
 /// Begins with the frame at this position of the stream.
@@ -39,6 +42,7 @@ pub extern "C" fn claxon_frames_start(frames: &mut ClaxonFrames, position: u64)
     *frames = ClaxonFrames {
         decoder: FrameDecoder::new(position),
         needed: 0,
+        last: ClaxonFrame::none(),
     };
 }
 
@@ -47,10 +51,12 @@ pub extern "C" fn claxon_frames_start(frames: &mut ClaxonFrames, position: u64)
 pub extern "C" fn claxon_frames_go_on(frames: &mut ClaxonFrames, position: u64)
     ensures from_position { IsFromPosition frames.old.decoder position frames.new.decoder }
     ensures needed { frames.new.needed ≡ 0 }
+    ensures last { frames.new.last ≡ frames.old.last }
 {
     *frames = ClaxonFrames {
         decoder: frames.decoder.from_position(position),
         needed: 0,
+        last: frames.last,
     };
 }
 
@@ -139,48 +145,55 @@ fn next_frame(
     ensures next_frame { NextFrame info.now at bytes.now is_end capacity frames.old result
         frames.new block.old block.new error.old error.new }
 {
+    let last = frames.last;
     let mut decoder = frames.decoder;
+    let position = decoder.position();
     match decoder.decode_next(Vec::new(alloc), bytes, at, is_end != 0, info.known_stream()) {
         Ok(Event::Decoded(frame)) => {
             *block = ClaxonBlock::from_header(&frame.info);
             if is_larger(&frame.block, capacity) {
                 return Err(BUFFER_TOO_SMALL);
             }
-            *frames = needed_frames(decoder, 0);
+            let last = ClaxonFrame::new(position, decoder.position(), &frame.info);
+            *frames = needed_frames(decoder, 0, last);
             Ok(frame.block)
         }
         Ok(Event::End) => {
-            *frames = needed_frames(decoder, 0);
+            *frames = needed_frames(decoder, 0, last);
             Err(NO_MORE)
         }
         Ok(Event::Faulty(fault)) => {
-            *frames = needed_frames(decoder, 0);
+            *frames = needed_frames(decoder, 0, last);
             Err(report(&fault.error, error))
         }
         Ok(Event::Cut(_)) => {
-            *frames = needed_frames(decoder, 0);
+            *frames = needed_frames(decoder, 0, last);
             put_text("the bytes end", error);
             Err(INPUT_ENDS)
         }
         Ok(Event::ReadOn(needed)) => {
-            *frames = needed_frames(decoder, needed.count);
+            *frames = needed_frames(decoder, needed.count, last);
             Err(NEED_MORE)
         }
         Err(fault) => {
-            *frames = needed_frames(decoder, 0);
+            *frames = needed_frames(decoder, 0, last);
             Err(report(&fault, error))
         }
     }
 }
 
-fn needed_frames(decoder: FrameDecoder, needed: usize) -> ClaxonFrames
-    ensures { result ≡ needed_frames decoder needed }
+fn needed_frames(decoder: FrameDecoder, needed: usize, last: ClaxonFrame) -> ClaxonFrames
+    ensures { result ≡ needed_frames decoder needed last }
 {
-    ClaxonFrames { decoder, needed }
+    ClaxonFrames {
+        decoder,
+        needed,
+        last,
+    }
 }
 
 // Whether the block has more samples than this capacity.
-fn is_larger(block: &Block, capacity: usize) -> bool
+pub(crate) fn is_larger(block: &Block, capacity: usize) -> bool
     ensures { IsTrue result
         ↔ (capacity < length block.now.channels * duration_of block.now.channels) }
 {

@@ -2,6 +2,8 @@
 ghost use Rattle.std.specs.Prelude.{◌≡◌, ◌↔◌, ◌+◌, ◌<◌, ◌≤◌, IfSome, IsTrue, length};
 ghost use Rattle.claxon.specs.ShownHead.{HasBitDepth};
 
+mod kept;
+
 use crate::clock::Clock;
 use crate::event::{SeekEvent, SoughtFrame};
 use crate::search::ByteSearch;
@@ -13,6 +15,7 @@ use claxon_seek::{FoundFrame, MAX_STEPS, Span, Step, max_block_size};
 use claxon_stream::{
     Event, FrameDecoder, HeaderThere, NeededBytes, ends_there, header_there, held_from,
 };
+pub use kept::KeptSeeker;
 use std::alloc::Global;
 
 // How many bytes are asked for at once on the way to a sample: a header stands in them mostly.
@@ -30,7 +33,6 @@ const MAX_BYTES_BY_TIMES: u64 = 1 << 24;
 
 // What is done next.
 #[derive(Clone, Copy, Debug)]
-#[repr(u8)]
 enum Stage {
     // Headers between known times are read.
     Headers,
@@ -63,6 +65,8 @@ enum NextHeader {
 ///
 /// Headers between known times lead to the frame. They, their times and the length are never believed: the frame is decoded before it is
 /// answered, and where they mislead all bytes are searched, within the budget of a `FrameFinder`.
+///
+/// C keeps it as a `KeptSeeker`.
 #[derive(Clone, Copy, Debug)]
 pub struct Seeker {
     stage: Stage,

@@ -23,7 +23,7 @@ returns-else-is_larger c =
     let frame = c.in-Ok-Decoded.frame in
     let larger : c.args.capacity < length frame.block.channels * duration_of frame.block.channels → ⊥ = λ p. false≢true (c.if-is_larger.ensures.1 p) in
     let fits : length frame.block.channels * duration_of frame.block.channels ≤ c.args.capacity = elim (cases_lt c.args.capacity (length frame.block.channels * duration_of frame.block.channels)) [ inl lt ↦ absurd (larger lt) | inr le ↦ le ] in
-    rw c.needed_frames.ensures (record { next_frame = (record { said = frame.info; is_next = next; needed = refl; fits = fits; shows = c.from_header.ensures.shows_info }, refl) })
+    rw c.needed_frames.ensures (record { next_frame = (record { said = frame.info; is_next = next; needed = refl; last = rw (c.position-position.ensures, c.position.ensures) at c.new-last.ensures; fits = fits; shows = c.from_header.ensures.shows_info }, refl) })
 
 pub returns-in-Ok-End : goal.returns-in-Ok-End
 returns-in-Ok-End c =
