@@ -126,22 +126,22 @@ enum claxon_part { CLAXON_MARKER = 0, CLAXON_METADATA_HEADER = 1, CLAXON_METADAT
 /* The frames of a stream whose bytes are handed in. It may be copied. */
 struct claxon_frames {
     uint64_t position; /* of the first byte that is needed */
-    /* The next six are for the calls alone. */
+    /* The next seven are for the calls alone. */
     size_t tried, summed;
     uint16_t crc;
     uint8_t is_near;
-    uint64_t wasted, counted;
+    uint64_t wasted, counted, faults;
     size_t needed; /* after NEED_MORE how many bytes are needed at least, from `position` on; else 0 */
 };
 
 /* A search for the next frame of a stream whose bytes are handed in. It may be copied. */
 struct claxon_search {
     uint64_t position; /* of the first byte that is needed */
-    /* The next eight are for the calls alone. */
+    /* The next nine are for the calls alone. */
     size_t tried, summed;
     uint16_t crc;
     uint8_t is_near;
-    uint64_t wasted_by_tries, counted_by_tries;
+    uint64_t wasted_by_tries, counted_by_tries, faults;
     uint64_t wasted, counted;
     uint8_t has_passed_over; /* 1 if a header was passed over untried, as very much work had led to no frame; else 0 */
     size_t needed;           /* after NEED_MORE how many bytes are needed at least, from `position` on; else 0 */
@@ -179,19 +179,19 @@ static_assert(sizeof(struct claxon_head) == 56 && offsetof(struct claxon_head, p
                   offsetof(struct claxon_head, has_comment) == 31 && offsetof(struct claxon_head, most) == 32 &&
                   offsetof(struct claxon_head, needed) == 40 && offsetof(struct claxon_head, part) == 48,
               "claxon is for Linux on x86-64 and 64-bit ARM: struct claxon_head has another layout here");
-static_assert(sizeof(struct claxon_frames) == 56 && offsetof(struct claxon_frames, position) == 0 &&
+static_assert(sizeof(struct claxon_frames) == 64 && offsetof(struct claxon_frames, position) == 0 &&
                   offsetof(struct claxon_frames, tried) == 8 && offsetof(struct claxon_frames, summed) == 16 &&
                   offsetof(struct claxon_frames, crc) == 24 && offsetof(struct claxon_frames, is_near) == 26 &&
                   offsetof(struct claxon_frames, wasted) == 32 && offsetof(struct claxon_frames, counted) == 40 &&
-                  offsetof(struct claxon_frames, needed) == 48,
+                  offsetof(struct claxon_frames, faults) == 48 && offsetof(struct claxon_frames, needed) == 56,
               "claxon is for Linux on x86-64 and 64-bit ARM: struct claxon_frames has another layout here");
-static_assert(sizeof(struct claxon_search) == 80 && offsetof(struct claxon_search, position) == 0 &&
+static_assert(sizeof(struct claxon_search) == 88 && offsetof(struct claxon_search, position) == 0 &&
                   offsetof(struct claxon_search, tried) == 8 && offsetof(struct claxon_search, summed) == 16 &&
                   offsetof(struct claxon_search, crc) == 24 && offsetof(struct claxon_search, is_near) == 26 &&
                   offsetof(struct claxon_search, wasted_by_tries) == 32 &&
-                  offsetof(struct claxon_search, counted_by_tries) == 40 && offsetof(struct claxon_search, wasted) == 48 &&
-                  offsetof(struct claxon_search, counted) == 56 && offsetof(struct claxon_search, has_passed_over) == 64 &&
-                  offsetof(struct claxon_search, needed) == 72,
+                  offsetof(struct claxon_search, counted_by_tries) == 40 && offsetof(struct claxon_search, faults) == 48 &&
+                  offsetof(struct claxon_search, wasted) == 56 && offsetof(struct claxon_search, counted) == 64 &&
+                  offsetof(struct claxon_search, has_passed_over) == 72 && offsetof(struct claxon_search, needed) == 80,
               "claxon is for Linux on x86-64 and 64-bit ARM: struct claxon_search has another layout here");
 #endif
 
@@ -320,11 +320,11 @@ void claxon_frames_start(struct claxon_frames *frames, uint64_t position);
 void claxon_frames_go_on(struct claxon_frames *frames, uint64_t position);
 
 /* Decodes the next frame. With CLAXON_OK, `block` is filled, channels * duration samples are written, interleaved, and
- * `position` is moved after the frame. NEED_MORE: no whole frame is there; or very many tries were in vain, to which no stream
- * of an encoder leads. BUFFER_TOO_SMALL: the samples of the frame don't fit; `block` is filled, and nothing else is changed.
- * FORMAT_ERROR, UNSUPPORTED: no frame begins there; `position` is moved after what is wrong. INPUT_ENDS: the stream ends within
- * the frame. NO_MORE: it ends after the last frame, or fewer than two bytes later. `position` is at its end then. FORMAT_ERROR,
- * UNSUPPORTED, INPUT_ENDS, OUT_OF_MEMORY: `error` gets a text. */
+ * `position` is moved after the frame. NEED_MORE: no whole frame is there; or very many tries were in vain, as in a stream that
+ * was made to cost time. BUFFER_TOO_SMALL: a frame's header is there, and its samples don't fit; `block` is filled from it, and
+ * nothing else is changed. FORMAT_ERROR, UNSUPPORTED: no frame begins there; `position` is moved after what is wrong.
+ * INPUT_ENDS: the stream ends within the frame. NO_MORE: it ends after the last frame, or fewer than two bytes later.
+ * `position` is at its end then. FORMAT_ERROR, UNSUPPORTED, INPUT_ENDS, OUT_OF_MEMORY: `error` gets a text. */
 uint32_t claxon_frames_next(struct claxon_frames *frames, const uint8_t *bytes, size_t length, uint64_t at, uint32_t is_end,
                             const struct claxon_info *info, int32_t *samples, size_t capacity, struct claxon_block *block,
                             char *error, size_t error_size);
@@ -337,8 +337,9 @@ uint32_t claxon_frames_next_planar(struct claxon_frames *frames, const uint8_t *
 /* Begins a search at this position. */
 void claxon_search_start(struct claxon_search *search, uint64_t position);
 
-/* Goes on from another position, as after frames that were decoded. What was charged stays, so that the time is linear. */
-void claxon_search_go_on(struct claxon_search *search, uint64_t position);
+/* Goes on from another position, as after these frames. What was charged stays, and what their faults cost is charged, so that
+ * the time is linear. */
+void claxon_search_go_on(struct claxon_search *search, struct claxon_frames *frames, uint64_t position);
 
 /* Finds the next frame of the stream, as claxon_find_frame does. With CLAXON_OK, *found is its position, `block` is filled from
  * its header, and `position` is moved after the frame; claxon_frames_go_on goes to it. NO_MORE: there is none, but for what

@@ -177,8 +177,8 @@ CLAXON_STATIC int64_t claxon_stream_seek_fd(void *fd, int64_t offset, int whence
 /* How many bytes are read at once. */
 #define CLAXON_STREAM_STEP 65536
 
-/* How much work may lead to no frame, in bytes and samples, before bytes are passed over unsearched; how much of it a byte that
- * is passed makes good; what a call costs in any case; and what a header costs that is none. */
+/* How much work of a seek may lead to no frame, in bytes and samples, before bytes are passed over unsearched; how much of it a
+ * byte that is passed makes good; what a call costs in any case; and what a header costs that is none. */
 #define CLAXON_STREAM_MAX_WASTED (2 * (uint64_t)CLAXON_MAX_FRAME_BYTES)
 #define CLAXON_STREAM_WASTED_OF_A_BYTE 4
 #define CLAXON_STREAM_WASTED_BY_A_CALL 64
@@ -596,7 +596,7 @@ CLAXON_STATIC uint32_t claxon_stream_next(struct claxon_stream *stream, int plan
         return claxon_stream_no_fault(stream, status);
     }
     if (status != CLAXON_NO_MORE && !claxon_stream_is_done(status)) {
-        claxon_stream_refuse(stream, length);
+        stream->is_refused = 1;
     }
     return status;
 }
@@ -642,8 +642,19 @@ CLAXON_STATIC uint32_t claxon_stream_search(struct claxon_stream *stream, uint64
     }
     status = claxon_search_next(&stream->search, bytes, stream->held, stream->position, 1, &stream->info, found, &block);
     if (status == CLAXON_NO_MORE) {
-        claxon_search_go_on(&stream->search, from + CLAXON_MAX_FRAME_BYTES / 2);
+        claxon_search_go_on(&stream->search, &stream->frames, from + CLAXON_MAX_FRAME_BYTES / 2);
         status = CLAXON_NEED_MORE;
+    }
+    return status;
+}
+
+/* Goes to the next byte 0xff, and reads what it takes. */
+CLAXON_STATIC uint32_t claxon_stream_to_sync(struct claxon_stream *stream) {
+    uint32_t status = CLAXON_OK;
+    claxon_stream_pass_to_sync(stream);
+    while (status == CLAXON_OK && stream->held == 0 && !stream->has_ended) {
+        status = claxon_stream_read_more(stream);
+        claxon_stream_pass_to_sync(stream);
     }
     return status;
 }
@@ -660,9 +671,12 @@ CLAXON_STATIC uint32_t claxon_stream_resync(struct claxon_stream *stream) {
         return claxon_stream_no_fault(stream, CLAXON_OK);
     }
     do {
-        claxon_stream_pass_unsearched(stream);
+        status = claxon_stream_to_sync(stream);
+        if (status != CLAXON_OK) {
+            return status;
+        }
         if (stream->search.position != stream->position) {
-            claxon_search_go_on(&stream->search, stream->position);
+            claxon_search_go_on(&stream->search, &stream->frames, stream->position);
         }
         status = claxon_stream_search(stream, &found);
         claxon_stream_pass(stream, (status == CLAXON_OK ? found : stream->search.position) - stream->position);

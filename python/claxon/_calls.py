@@ -87,6 +87,7 @@ class Frames(ctypes.Structure):
         ("is_near", ctypes.c_uint8),
         ("wasted", ctypes.c_uint64),
         ("counted", ctypes.c_uint64),
+        ("faults", ctypes.c_uint64),
         ("needed", ctypes.c_size_t),
     ]
 
@@ -100,6 +101,7 @@ class Search(ctypes.Structure):
         ("is_near", ctypes.c_uint8),
         ("wasted_by_tries", ctypes.c_uint64),
         ("counted_by_tries", ctypes.c_uint64),
+        ("faults", ctypes.c_uint64),
         ("wasted", ctypes.c_uint64),
         ("counted", ctypes.c_uint64),
         ("has_passed_over", ctypes.c_uint8),
@@ -188,7 +190,7 @@ def _declare(found: ctypes.CDLL) -> None:
         "claxon_frames_next": [frames, *held, info, memory, size, block, text, size],
         "claxon_frames_next_planar": [frames, *held, info, memory, size, block, text, size],
         "claxon_search_start": [search, position],
-        "claxon_search_go_on": [search, position],
+        "claxon_search_go_on": [search, frames, position],
         "claxon_search_next": [search, *held, info, ctypes.POINTER(position), block],
         "claxon_next_block_planar": frame,
         "claxon_find_frame": [memory, size, to_size, info, ctypes.POINTER(position), block],

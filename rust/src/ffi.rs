@@ -113,6 +113,7 @@ pub struct Frames {
     is_near: u8,
     wasted: u64,
     counted: u64,
+    faults: u64,
     pub needed: usize,
 }
 
@@ -127,6 +128,7 @@ pub struct Search {
     is_near: u8,
     wasted_by_tries: u64,
     counted_by_tries: u64,
+    faults: u64,
     wasted: u64,
     counted: u64,
     has_passed_over: u8,
@@ -145,7 +147,7 @@ pub struct Md5 {
 // The sizes that `claxon.h` asserts.
 const _: () = assert!(size_of::<Info>() == 64 && size_of::<Tag>() == 32 && size_of::<Block>() == 24);
 const _: () = assert!(size_of::<Metadata>() == 16 && size_of::<Head>() == 56);
-const _: () = assert!(size_of::<Md5>() == 88 && size_of::<Frames>() == 56 && size_of::<Search>() == 80);
+const _: () = assert!(size_of::<Md5>() == 88 && size_of::<Frames>() == 64 && size_of::<Search>() == 88);
 
 /// A text that the library writes. Its longest one has 92 bytes.
 pub type Text = [u8; 112];
@@ -220,7 +222,7 @@ extern "C" {
         error_size: usize,
     ) -> u32;
     fn claxon_search_start(search: *mut Search, position: u64);
-    fn claxon_search_go_on(search: *mut Search, position: u64);
+    fn claxon_search_go_on(search: *mut Search, frames: *mut Frames, position: u64);
     fn claxon_search_next(
         search: *mut Search,
         bytes: *const u8,
@@ -520,10 +522,10 @@ impl Search {
         search
     }
 
-    /// From another position on.
-    pub fn go_on(&mut self, position: u64) {
+    /// From another position on. What the faults of these frames cost is charged.
+    pub fn go_on(&mut self, frames: &mut Frames, position: u64) {
         // SAFETY: as the module says.
-        unsafe { claxon_search_go_on(self, position) }
+        unsafe { claxon_search_go_on(self, frames, position) }
     }
 
     /// Finds the next frame.

@@ -1,13 +1,21 @@
 //! The frames of a stream whose bytes the caller holds and hands in.
-ghost use Rattle.std.specs.Prelude.{◌≡◌, ◌+◌, ◌*◌, ◌<◌, ◌↔◌, IsTrue, length};
-ghost use Rattle.claxon.specs.Streams.{duration_of};
+ghost use Rattle.std.specs.Prelude.{◌≡◌, ◌+◌, IfSome, length};
+ghost use Rattle.std.specs.Option.{option_map};
+ghost use Rattle.claxon.specs.FrameReader.{stream_with};
+ghost use Rattle.claxon.specs.ShownHead.{HasBitDepth};
 ghost use Rattle.claxon_stream.specs.FrameDecoder.{IsFromPosition, decoder_position};
 ghost use Rattle.claxon_stream.specs.HeadDecoder.{PositionFits};
 ghost use Rattle.claxon_c.specs.Frames.{
   CFrameIsAnswered,
+  CFrameLargerIsTold,
   CFrameTooFarIsUnsupported,
   FramesBegin,
+  FramesWait,
+  IsBlockOrStatus,
+  IsLargerHeader,
   NextFrame,
+  NextLargerIsTold,
+  needed_by,
   needed_frames,
 };
 ghost use Rattle.claxon_c.specs.NextBlock.{InterleavedArePut, PlanarArePut};
@@ -15,18 +23,21 @@ ghost use Rattle.claxon_c.specs.NextBlock.{InterleavedArePut, PlanarArePut};
 use crate::heads::ClaxonInfo;
 use crate::held::{position_fits, report_position};
 use crate::interleave::put_interleaved;
-use crate::next_block::ClaxonBlock;
+use crate::next_block::{ClaxonBlock, has_larger};
 use crate::planar::put_planar;
 use crate::status::{BUFFER_TOO_SMALL, INPUT_ENDS, NEED_MORE, NO_MORE, OK, put_text, report};
 use claxon::Block;
-use claxon_stream::{Event, FrameDecoder};
+use claxon::frame::BlockInfo;
+use claxon::metadata::StreamInfo;
+use claxon_seek::header_at_start;
+use claxon_stream::{Event, FrameDecoder, held_from};
 use std::alloc::Global;
 
 /// The frames of a stream, one after another.
 #[repr(C)]
 #[derive(Clone, Copy, Debug)]
 pub struct ClaxonFrames {
-    decoder: FrameDecoder,
+    pub(crate) decoder: FrameDecoder,
     /// After `NEED_MORE` how many bytes are needed at least, from the decoder's position on; else 0.
     pub needed: usize,
 }
@@ -71,11 +82,16 @@ pub extern "C" fn claxon_frames_next(
     ensures is_answered { CFrameIsAnswered info.now at bytes.now is_end InterleavedArePut
         frames.old result frames.new samples.old samples.new block.old block.new
         error.old error.new }
+    ensures larger_is_told { CFrameLargerIsTold info.now at bytes.now frames.old result
+        samples.old }
     ensures too_far_is_unsupported { CFrameTooFarIsUnsupported at bytes.now frames.old result
         frames.new samples.old samples.new block.old block.new error.old error.new }
 {
     if !position_fits(at, bytes) {
         return report_position(error);
+    }
+    if is_waiting(frames, bytes, at, is_end) {
+        return NEED_MORE;
     }
     let capacity = samples.len();
     match next_frame(
@@ -105,11 +121,16 @@ pub extern "C" fn claxon_frames_next_planar(
     ensures is_answered { CFrameIsAnswered info.now at bytes.now is_end PlanarArePut
         frames.old result frames.new samples.old samples.new block.old block.new
         error.old error.new }
+    ensures larger_is_told { CFrameLargerIsTold info.now at bytes.now frames.old result
+        samples.old }
     ensures too_far_is_unsupported { CFrameTooFarIsUnsupported at bytes.now frames.old result
         frames.new samples.old samples.new block.old block.new error.old error.new }
 {
     if !position_fits(at, bytes) {
         return report_position(error);
+    }
+    if is_waiting(frames, bytes, at, is_end) {
+        return NEED_MORE;
     }
     let capacity = samples.len();
     match next_frame(
@@ -123,7 +144,23 @@ pub extern "C" fn claxon_frames_next_planar(
     }
 }
 
+// Whether nothing can be said yet, and how many bytes are needed then. Most calls answer that where bytes come one by one.
+fn is_waiting(frames: &mut ClaxonFrames, bytes: &[u8], at: u64, is_end: u32) -> bool
+    requires fits { PositionFits (at + length bytes.now) }
+    ensures { FramesWait at bytes.now is_end frames.old result frames.new }
+{
+    let mut decoder = frames.decoder;
+    match decoder.waits(bytes, at, is_end != 0) {
+        Some(needed) => {
+            *frames = needed_frames(decoder, needed.count);
+            true
+        }
+        None => false,
+    }
+}
+
 // The block of the next frame, if the capacity suffices for its samples. Else the status.
+#[inline(never)]
 fn next_frame(
     alloc: Global,
     frames: &mut ClaxonFrames,
@@ -138,38 +175,70 @@ fn next_frame(
     requires fits { PositionFits (at + length bytes.now) }
     ensures next_frame { NextFrame info.now at bytes.now is_end capacity frames.old result
         frames.new block.old block.new error.old error.new }
+    ensures larger_is_told { NextLargerIsTold info.now at bytes.now capacity frames.old result }
 {
+    let known = info.known_stream();
     let mut decoder = frames.decoder;
-    match decoder.decode_next(Vec::new(alloc), bytes, at, is_end != 0, info.known_stream()) {
+    let rest = held_from(bytes, at, decoder.position());
+    if let Some(said) = larger_header(rest, known, capacity) {
+        *block = ClaxonBlock::from_header(&said);
+        return Err(BUFFER_TOO_SMALL);
+    }
+    let event = decoder.decode_next(Vec::new(alloc), bytes, at, is_end != 0, known);
+    *frames = needed_frames(decoder, needed_by(&event));
+    block_or_status(event, block, error)
+}
+
+// What the header says that the bytes begin with, if its block has more samples than the capacity.
+fn larger_header(bytes: &[u8], known: Option<StreamInfo>, capacity: usize) -> Option<BlockInfo>
+    requires { IfSome known (λ info. HasBitDepth info) }
+    ensures { IsLargerHeader (option_map stream_with known) bytes.now capacity result }
+{
+    match header_at_start(bytes, known) {
+        Ok(Some(header)) => {
+            let said = header.info();
+            if has_larger(&said, capacity) {
+                Some(said)
+            } else {
+                None
+            }
+        }
+        Ok(None) => None,
+        Err(_) => None,
+    }
+}
+
+// How many bytes are needed after this event.
+fn needed_by(event: &claxon::Result<Event>) -> usize
+    ensures { result ≡ needed_by event.now }
+{
+    match event {
+        Ok(Event::ReadOn(needed)) => needed.count,
+        _ => 0,
+    }
+}
+
+// The block of a frame, whose properties are shown. Else the status, and the text of a fault.
+fn block_or_status(
+    event: claxon::Result<Event>,
+    block: &mut ClaxonBlock,
+    error: &mut [u8],
+) -> Result<Block, u32>
+    ensures { IsBlockOrStatus block.old block.new error.old error.new event result }
+{
+    match event {
         Ok(Event::Decoded(frame)) => {
             *block = ClaxonBlock::from_header(&frame.info);
-            if is_larger(&frame.block, capacity) {
-                return Err(BUFFER_TOO_SMALL);
-            }
-            *frames = needed_frames(decoder, 0);
             Ok(frame.block)
         }
-        Ok(Event::End) => {
-            *frames = needed_frames(decoder, 0);
-            Err(NO_MORE)
-        }
-        Ok(Event::Faulty(fault)) => {
-            *frames = needed_frames(decoder, 0);
-            Err(report(&fault.error, error))
-        }
+        Ok(Event::End) => Err(NO_MORE),
+        Ok(Event::Faulty(fault)) => Err(report(&fault.error, error)),
         Ok(Event::Cut(_)) => {
-            *frames = needed_frames(decoder, 0);
             put_text("the bytes end", error);
             Err(INPUT_ENDS)
         }
-        Ok(Event::ReadOn(needed)) => {
-            *frames = needed_frames(decoder, needed.count);
-            Err(NEED_MORE)
-        }
-        Err(fault) => {
-            *frames = needed_frames(decoder, 0);
-            Err(report(&fault, error))
-        }
+        Ok(Event::ReadOn(_)) => Err(NEED_MORE),
+        Err(fault) => Err(report(&fault, error)),
     }
 }
 
@@ -177,12 +246,4 @@ fn needed_frames(decoder: FrameDecoder, needed: usize) -> ClaxonFrames
     ensures { result ≡ needed_frames decoder needed }
 {
     ClaxonFrames { decoder, needed }
-}
-
-// Whether the block has more samples than this capacity.
-fn is_larger(block: &Block, capacity: usize) -> bool
-    ensures { IsTrue result
-        ↔ (capacity < length block.now.channels * duration_of block.now.channels) }
-{
-    block.channels() as usize * block.duration() as usize > capacity
 }
