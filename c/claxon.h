@@ -135,11 +135,11 @@ struct claxon_frame {
 /* The frames of a stream whose bytes are handed in. It may be copied. */
 struct claxon_frames {
     uint64_t position; /* of the first byte that is needed */
-    /* The next six are for the calls alone. */
+    /* The next seven are for the calls alone. */
     size_t tried, summed;
     uint16_t crc;
     uint8_t is_near;
-    uint64_t wasted, counted;
+    uint64_t wasted, counted, faults;
     size_t needed;            /* after NEED_MORE how many bytes are needed at least, from `position` on; else 0 */
     struct claxon_frame last; /* the frame that was decoded last */
 };
@@ -147,11 +147,11 @@ struct claxon_frames {
 /* A search for the next frame of a stream whose bytes are handed in. It may be copied. */
 struct claxon_search {
     uint64_t position; /* of the first byte that is needed */
-    /* The next eight are for the calls alone. */
+    /* The next nine are for the calls alone. */
     size_t tried, summed;
     uint16_t crc;
     uint8_t is_near;
-    uint64_t wasted_by_tries, counted_by_tries;
+    uint64_t wasted_by_tries, counted_by_tries, faults;
     uint64_t wasted, counted;
     uint8_t has_passed_over; /* 1 if a header was passed over untried, as very much work had led to no frame; else 0 */
     size_t needed;           /* after NEED_MORE how many bytes are needed at least, from `position` on; else 0 */
@@ -164,7 +164,7 @@ struct claxon_clock {
 
 /* A seek to a sample, in a stream whose bytes are handed in. It may be copied. */
 struct claxon_seeker {
-    uint64_t state[31];        /* for the calls alone */
+    uint64_t state[33];        /* for the calls alone */
     uint64_t position;         /* after NEED_MORE where the bytes begin that are needed, before or after those that are held, */
     size_t needed;             /*     and how many are needed at least; else 0 */
     struct claxon_frame found; /* the frame that was found */
@@ -206,25 +206,26 @@ static_assert(sizeof(struct claxon_frame) == 32 && offsetof(struct claxon_frame,
                   offsetof(struct claxon_frame, end) == 8 && offsetof(struct claxon_frame, number) == 16 &&
                   offsetof(struct claxon_frame, duration) == 24 && offsetof(struct claxon_frame, is_variable) == 28,
               "claxon is for Linux on x86-64 and 64-bit ARM: struct claxon_frame has another layout here");
-static_assert(sizeof(struct claxon_frames) == 88 && offsetof(struct claxon_frames, position) == 0 &&
+static_assert(sizeof(struct claxon_frames) == 96 && offsetof(struct claxon_frames, position) == 0 &&
                   offsetof(struct claxon_frames, tried) == 8 && offsetof(struct claxon_frames, summed) == 16 &&
                   offsetof(struct claxon_frames, crc) == 24 && offsetof(struct claxon_frames, is_near) == 26 &&
                   offsetof(struct claxon_frames, wasted) == 32 && offsetof(struct claxon_frames, counted) == 40 &&
-                  offsetof(struct claxon_frames, needed) == 48 && offsetof(struct claxon_frames, last) == 56,
+                  offsetof(struct claxon_frames, faults) == 48 && offsetof(struct claxon_frames, needed) == 56 &&
+                  offsetof(struct claxon_frames, last) == 64,
               "claxon is for Linux on x86-64 and 64-bit ARM: struct claxon_frames has another layout here");
-static_assert(sizeof(struct claxon_search) == 80 && offsetof(struct claxon_search, position) == 0 &&
+static_assert(sizeof(struct claxon_search) == 88 && offsetof(struct claxon_search, position) == 0 &&
                   offsetof(struct claxon_search, tried) == 8 && offsetof(struct claxon_search, summed) == 16 &&
                   offsetof(struct claxon_search, crc) == 24 && offsetof(struct claxon_search, is_near) == 26 &&
                   offsetof(struct claxon_search, wasted_by_tries) == 32 &&
-                  offsetof(struct claxon_search, counted_by_tries) == 40 && offsetof(struct claxon_search, wasted) == 48 &&
-                  offsetof(struct claxon_search, counted) == 56 && offsetof(struct claxon_search, has_passed_over) == 64 &&
-                  offsetof(struct claxon_search, needed) == 72,
+                  offsetof(struct claxon_search, counted_by_tries) == 40 && offsetof(struct claxon_search, faults) == 48 &&
+                  offsetof(struct claxon_search, wasted) == 56 && offsetof(struct claxon_search, counted) == 64 &&
+                  offsetof(struct claxon_search, has_passed_over) == 72 && offsetof(struct claxon_search, needed) == 80,
               "claxon is for Linux on x86-64 and 64-bit ARM: struct claxon_search has another layout here");
 static_assert(sizeof(struct claxon_clock) == 40,
               "claxon is for Linux on x86-64 and 64-bit ARM: struct claxon_clock has another layout here");
-static_assert(sizeof(struct claxon_seeker) == 296 && offsetof(struct claxon_seeker, state) == 0 &&
-                  offsetof(struct claxon_seeker, position) == 248 && offsetof(struct claxon_seeker, needed) == 256 &&
-                  offsetof(struct claxon_seeker, found) == 264,
+static_assert(sizeof(struct claxon_seeker) == 312 && offsetof(struct claxon_seeker, state) == 0 &&
+                  offsetof(struct claxon_seeker, position) == 264 && offsetof(struct claxon_seeker, needed) == 272 &&
+                  offsetof(struct claxon_seeker, found) == 280,
               "claxon is for Linux on x86-64 and 64-bit ARM: struct claxon_seeker has another layout here");
 #endif
 
@@ -353,11 +354,11 @@ void claxon_frames_start(struct claxon_frames *frames, uint64_t position);
 void claxon_frames_go_on(struct claxon_frames *frames, uint64_t position);
 
 /* Decodes the next frame. With CLAXON_OK, `block` and `last` are filled, channels * duration samples are written, interleaved,
- * and `position` is moved after the frame. NEED_MORE: no whole frame is there; or very many tries were in vain, to which no
- * stream of an encoder leads. BUFFER_TOO_SMALL: the samples of the frame don't fit; `block` is filled, and nothing else is
- * changed. FORMAT_ERROR, UNSUPPORTED: no frame begins there; `position` is moved after what is wrong. INPUT_ENDS: the stream
- * ends within the frame. NO_MORE: it ends after the last frame, or fewer than two bytes later. `position` is at its end then.
- * FORMAT_ERROR, UNSUPPORTED, INPUT_ENDS, OUT_OF_MEMORY: `error` gets a text. */
+ * and `position` is moved after the frame. NEED_MORE: no whole frame is there; or very many tries were in vain, as in a stream
+ * that was made to cost time. BUFFER_TOO_SMALL: a frame's header is there, and its samples don't fit; `block` is filled from
+ * it, and nothing else is changed. FORMAT_ERROR, UNSUPPORTED: no frame begins there; `position` is moved after what is wrong.
+ * INPUT_ENDS: the stream ends within the frame. NO_MORE: it ends after the last frame, or fewer than two bytes later.
+ * `position` is at its end then. FORMAT_ERROR, UNSUPPORTED, INPUT_ENDS, OUT_OF_MEMORY: `error` gets a text. */
 uint32_t claxon_frames_next(struct claxon_frames *frames, const uint8_t *bytes, size_t length, uint64_t at, uint32_t is_end,
                             const struct claxon_info *info, int32_t *samples, size_t capacity, struct claxon_block *block,
                             char *error, size_t error_size);
@@ -370,8 +371,9 @@ uint32_t claxon_frames_next_planar(struct claxon_frames *frames, const uint8_t *
 /* Begins a search at this position. */
 void claxon_search_start(struct claxon_search *search, uint64_t position);
 
-/* Goes on from another position, as after frames that were decoded. What was charged stays, so that the time is linear. */
-void claxon_search_go_on(struct claxon_search *search, uint64_t position);
+/* Goes on from another position, as after these frames. What was charged stays, and what their faults cost is charged, so that
+ * the time is linear. */
+void claxon_search_go_on(struct claxon_search *search, struct claxon_frames *frames, uint64_t position);
 
 /* Finds the next frame of the stream, as claxon_find_frame does. With CLAXON_OK, *found is its position, `block` is filled from
  * its header, and `position` is moved after the frame; claxon_frames_go_on goes to it. NO_MORE: there is none, but for what

@@ -472,7 +472,7 @@ CLAXON_STATIC uint32_t claxon_stream_try_search(struct claxon_stream *stream) {
     uint64_t found = 0, from;
     uint32_t status;
     if (search->position != stream->position) {
-        claxon_search_go_on(search, stream->position);
+        claxon_search_go_on(search, &stream->frames, stream->position);
     }
     status = claxon_search_next(search, claxon_stream_bytes(stream), stream->held, stream->position, stream->has_ended,
                                 &stream->info, &found, &stream->next);
@@ -481,7 +481,7 @@ CLAXON_STATIC uint32_t claxon_stream_try_search(struct claxon_stream *stream) {
         status = claxon_search_next(search, claxon_stream_bytes(stream), stream->held, stream->position, 1, &stream->info,
                                     &found, &stream->next);
         if (status == CLAXON_NO_MORE) {
-            claxon_search_go_on(search, from + CLAXON_MAX_FRAME_BYTES / 2);
+            claxon_search_go_on(search, &stream->frames, from + CLAXON_MAX_FRAME_BYTES / 2);
             status = CLAXON_NEED_MORE;
         }
     }

@@ -97,6 +97,7 @@ class Frames(ctypes.Structure):
         ("is_near", ctypes.c_uint8),
         ("wasted", ctypes.c_uint64),
         ("counted", ctypes.c_uint64),
+        ("faults", ctypes.c_uint64),
         ("needed", ctypes.c_size_t),
         ("last", Frame),
     ]
@@ -111,6 +112,7 @@ class Search(ctypes.Structure):
         ("is_near", ctypes.c_uint8),
         ("wasted_by_tries", ctypes.c_uint64),
         ("counted_by_tries", ctypes.c_uint64),
+        ("faults", ctypes.c_uint64),
         ("wasted", ctypes.c_uint64),
         ("counted", ctypes.c_uint64),
         ("has_passed_over", ctypes.c_uint8),
@@ -124,7 +126,7 @@ class Clock(ctypes.Structure):
 
 class Seeker(ctypes.Structure):
     _fields_ = [
-        ("state", ctypes.c_uint64 * 31),
+        ("state", ctypes.c_uint64 * 33),
         ("position", ctypes.c_uint64),
         ("needed", ctypes.c_size_t),
         ("found", Frame),
@@ -213,7 +215,7 @@ def _declare(found: ctypes.CDLL) -> None:
         "claxon_frames_next": [frames, *held, *samples, text, size],
         "claxon_frames_next_planar": [frames, *held, *samples, text, size],
         "claxon_search_start": [search, position],
-        "claxon_search_go_on": [search, position],
+        "claxon_search_go_on": [search, frames, position],
         "claxon_search_next": [search, *held, info, ctypes.POINTER(position), block],
         "claxon_clock_start": [clock, info],
         "claxon_clock_time": [clock, frame, ctypes.POINTER(position)],

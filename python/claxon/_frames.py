@@ -211,7 +211,7 @@ class Frames:
         window = self.window
         if self._lost_at is None:
             self._lost_at = window.position()
-            library.claxon_search_go_on(self._search, self._lost_at + was_tried)
+            library.claxon_search_go_on(self._search, self._next, self._lost_at + was_tried)
         self._ahead = None
         position = ctypes.c_uint64()
         status = self._find(position)
@@ -248,7 +248,7 @@ class Frames:
                 self.found,
             )
             if status == NO_MORE and is_end != window.has_ended:
-                library.claxon_search_go_on(search, place + 1)
+                library.claxon_search_go_on(search, self._next, place + 1)
                 is_end = window.has_ended
             elif status == NEED_MORE and self._is_full():
                 is_end = True

@@ -263,15 +263,15 @@ def large_frame(number: int, channels: List[bytes]) -> bytes:
 
 
 @functools.lru_cache(maxsize=1)
-def stream_of_large_frames() -> Stream:
-    """Eight frames of 8 channels of 65,535 samples of noise: 1 MB each."""
+def stream_of_large_frames(count: int = 8, duration: int = 65535) -> Stream:
+    """Frames of 8 channels of so many samples of noise: of 65,535 they have 1 MB each."""
     source = random.Random(7)
     fields = 44100 << 44 | 7 << 41 | 15 << 36
     streaminfo = STREAMINFO[:10] + fields.to_bytes(8, "big") + bytes(16)
     content, ends, samples = MARKER + metadata_block(0, streaminfo, True), [], []
-    for number in range(8):
-        noise = source.getrandbits(8 * 16 * 65535).to_bytes(16 * 65535, "big")
-        channels = [noise[at : at + 2 * 65535] for at in range(0, len(noise), 2 * 65535)]
+    for number in range(count):
+        noise = source.getrandbits(8 * 16 * duration).to_bytes(16 * duration, "big")
+        channels = [noise[at : at + 2 * duration] for at in range(0, len(noise), 2 * duration)]
         content += large_frame(number, channels)
         ends.append(len(content))
         found = array("h", noise)
@@ -303,8 +303,8 @@ class LargeFrames(unittest.TestCase):
         self.expect_fed(first_frames(stream, 1), 61)
 
     def test_little_is_wasted(self) -> None:
-        """What is tried in vain is made good by the bytes and samples of each frame."""
-        feed = self.expect_fed(stream_of_large_frames(), 1460)
+        """Frames of the streamable subset make good what is tried in vain in them."""
+        feed = self.expect_fed(stream_of_large_frames(32, 16384), 1460)
         self.assertLess(feed._frames._next.wasted, 1 << 21)
 
     def test_file_objects(self) -> None:

@@ -178,7 +178,7 @@ impl Decoder {
     /// are in the buffer's memory, which is taken if it suffices.
     ///
     /// A block is given as soon as its frame is held: `NeedMore` says that no whole frame is there, or that very many
-    /// tries were in vain, to which no stream of an encoder leads.
+    /// tries were in vain, as in a stream that was made to cost time.
     ///
     /// # Errors
     ///
@@ -369,7 +369,7 @@ impl Decoder {
             Lost::Refused(begin) => (begin, begin + 1),
             Lost::Nothing => (self.frames.position, self.frames.position),
         };
-        self.search.go_on(from);
+        self.search.go_on(&mut self.frames, from);
         self.lost = Lost::Skipping(begin);
         begin
     }
@@ -382,7 +382,7 @@ impl Decoder {
             match self.search.next(shown, &self.info) {
                 NextFound::NeedMore if held.count_from(self.search.position) >= MAX_FRAME_BYTES => shown.is_end = true,
                 NextFound::Nothing if shown.is_end != held.is_end => {
-                    self.search.go_on(from + 1);
+                    self.search.go_on(&mut self.frames, from + 1);
                     shown = held;
                 }
                 found => return found,

@@ -124,6 +124,7 @@ pub struct Frames {
     is_near: u8,
     wasted: u64,
     counted: u64,
+    faults: u64,
     pub needed: usize,
     pub last: Frame,
 }
@@ -139,6 +140,7 @@ pub struct Search {
     is_near: u8,
     wasted_by_tries: u64,
     counted_by_tries: u64,
+    faults: u64,
     wasted: u64,
     counted: u64,
     has_passed_over: u8,
@@ -154,9 +156,9 @@ pub struct Clock {
 
 /// `struct claxon_seeker`.
 #[repr(C)]
-#[derive(Clone, Copy, Debug, Default)]
+#[derive(Clone, Copy, Debug)]
 pub struct Seeker {
-    state: [u64; 31],
+    state: [u64; 33],
     pub position: u64,
     pub needed: usize,
     pub found: Frame,
@@ -174,8 +176,8 @@ pub struct Md5 {
 // The sizes that `claxon.h` asserts.
 const _: () = assert!(size_of::<Info>() == 64 && size_of::<Tag>() == 32 && size_of::<Block>() == 24);
 const _: () = assert!(size_of::<Metadata>() == 16 && size_of::<Head>() == 56);
-const _: () = assert!(size_of::<Md5>() == 88 && size_of::<Frames>() == 88 && size_of::<Search>() == 80);
-const _: () = assert!(size_of::<Frame>() == 32 && size_of::<Clock>() == 40 && size_of::<Seeker>() == 296);
+const _: () = assert!(size_of::<Md5>() == 88 && size_of::<Frames>() == 96 && size_of::<Search>() == 88);
+const _: () = assert!(size_of::<Frame>() == 32 && size_of::<Clock>() == 40 && size_of::<Seeker>() == 312);
 
 /// A text that the library writes. Its longest one has 92 bytes.
 pub type Text = [u8; 112];
@@ -243,7 +245,7 @@ extern "C" {
         error_size: usize,
     ) -> u32;
     fn claxon_search_start(search: *mut Search, position: u64);
-    fn claxon_search_go_on(search: *mut Search, position: u64);
+    fn claxon_search_go_on(search: *mut Search, frames: *mut Frames, position: u64);
     fn claxon_search_next(
         search: *mut Search,
         bytes: *const u8,
@@ -527,10 +529,10 @@ impl Search {
         search
     }
 
-    /// From another position on.
-    pub fn go_on(&mut self, position: u64) {
+    /// From another position on. What the faults of these frames cost is charged.
+    pub fn go_on(&mut self, frames: &mut Frames, position: u64) {
         // SAFETY: as the module says.
-        unsafe { claxon_search_go_on(self, position) }
+        unsafe { claxon_search_go_on(self, frames, position) }
     }
 
     /// Finds the next frame.
@@ -605,7 +607,7 @@ pub enum NextSought {
 impl Seeker {
     /// A seek to a sample, from the first frame on at `info.first_frame`. As `Head::start`.
     pub fn start(info: &Info, length: u64, sample: u64, clock: &Clock) -> Seeker {
-        let mut seeker = Seeker::default();
+        let mut seeker = Seeker { state: [0; 33], position: 0, needed: 0, found: Frame::default() };
         if check_library().is_ok() {
             // SAFETY: as the module says.
             unsafe { claxon_seeker_start(&mut seeker, info, length, sample, clock) }

@@ -182,7 +182,7 @@ def by_calls(data: bytes, pieces: Pieces, info: _calls.Info) -> Tuple[Events, Ev
             return events, told(), bool(search.has_passed_over)
         else:
             events.append(("fault", begin, *fault_of(status, BUFFERS.error.value)))
-            library.claxon_search_go_on(search, begin + 1)
+            library.claxon_search_go_on(search, frames, begin + 1)
             while status not in (OK, NO_MORE):
                 bytes_held = held.arguments(search.position)
                 status = library.claxon_search_next(

@@ -3,7 +3,7 @@ use Rattle.std.proofs.Common.{◌≡◌, ℕ, List, Option, subst}
 use Rattle.std.specs.Prelude.{Result}
 use Rattle.claxon.specs.Errors.{Error}
 use Rattle.claxon.specs.StreamInfos.{StreamInfo}
-use Rattle.claxon_stream.specs.FrameDecoder.{CutIsComplete, EndIsComplete, EventIsOfStream, EventIsSound, FaultIsComplete, FaultIsTimely, FrameIsComplete, FrameIsTimely, KeepsNotes, ReadOnIsComplete, WasteIsInVain}
+use Rattle.claxon_stream.specs.FrameDecoder.{CutIsComplete, EndIsComplete, EventIsOfStream, EventIsSound, FaultIsCharged, FaultIsComplete, FaultIsTimely, FrameIsComplete, FrameIsTimely, KeepsNotes, ReadOnIsComplete, WasteIsInVain}
 use Rattle.claxon_stream.specs.FrameFinder.{FindIsOfStream, FindIsTimely, FindKeepsNotes, FindNeedsMore, FindWasteIsInVain}
 use Rattle.claxon_stream.specs.declared.event.Event.{Event}
 use Rattle.claxon_stream.specs.declared.event.FindEvent.{FindEvent}
@@ -34,8 +34,9 @@ module _ (info : ClaxonInfo) (known : Option StreamInfo) (same : known ≡ known
       → FrameIsTimely known at bytes (says_yes is_end) old event new
       → FaultIsTimely known at bytes (says_yes is_end) old event
       → WasteIsInVain known at bytes (says_yes is_end) old event new
+      → FaultIsCharged known at bytes (says_yes is_end) old event new
       → IsNextEvent (known_info info) at bytes is_end old event new
-  next_event capacity old event new sound stream frame fault end cut more notes timely fault_timely waste =
+  next_event capacity old event new sound stream frame fault end cut more notes timely fault_timely waste charged =
       subst (λ (k : Option StreamInfo). IsNextEvent k at bytes is_end old event new) same (record {
         capacity = capacity;
         is_sound = sound;
@@ -49,6 +50,7 @@ module _ (info : ClaxonInfo) (known : Option StreamInfo) (same : known ≡ known
         frame_is_timely = timely;
         fault_is_timely = fault_timely;
         waste_is_in_vain = waste;
+        fault_is_charged = charged;
       })
 
   -- so is one of a search

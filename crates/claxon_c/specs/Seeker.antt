@@ -79,8 +79,8 @@ pub record SeekBegins (info : ClaxonInfo) (sample : ℕ) (clock : Clock) (new : 
     pub needed : new.needed ≡ 0
     pub found : new.found ≡ no_frame
 
--- The event and the seeker after it have the clauses of `Seeker::seek_next`: by the bytes that stand
--- at the position `at`, and end the stream if `is_end` isn't 0.
+-- The event and the seeker after it have the clauses of `Seeker::seek_next`: by the bytes that
+-- stand at the position `at`, and end the stream if `is_end` isn't 0.
 pub record IsNextSeek (known : Option StreamInfo) (at : ℕ) (bytes : List ℕ) (is_end : ℕ)
     (old : Seeker) (event : Result SeekEvent Error) (new : Seeker) : Type 0 where
   pub keeps_sought : SeekKeepsSought old new

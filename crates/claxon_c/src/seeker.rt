@@ -1,5 +1,6 @@
 //! A seek to a sample, by bytes of a stream that the caller holds and hands in.
-ghost use Rattle.std.specs.Prelude.{◌≡◌, ◌+◌, length};
+ghost use Rattle.std.specs.Prelude.{◌↔◌, ◌+◌, ◌*◌, ◌<◌, IsTrue, length};
+ghost use Rattle.claxon.specs.Streams.{duration_of};
 ghost use Rattle.claxon_stream.specs.HeadDecoder.{PositionFits};
 ghost use Rattle.claxon_stream_seek.specs.Kept.{kept_clock};
 ghost use Rattle.claxon_c.specs.NextBlock.{InterleavedArePut, PlanarArePut, ShowsInfo};
@@ -13,7 +14,6 @@ ghost use Rattle.claxon_c.specs.Seeker.{
 };
 
 use crate::frame::ClaxonFrame;
-use crate::frames::is_larger;
 use crate::heads::ClaxonInfo;
 use crate::held::position_fits;
 use crate::interleave::put_interleaved;
@@ -167,6 +167,14 @@ fn next_sought(
             Err(OUT_OF_MEMORY)
         }
     }
+}
+
+// Whether the block has more samples than this capacity.
+fn is_larger(block: &Block, capacity: usize) -> bool
+    ensures { IsTrue result
+        ↔ (capacity < length block.now.channels * duration_of block.now.channels) }
+{
+    block.channels() as usize * block.duration() as usize > capacity
 }
 
 fn seeker_with(seeker: Seeker, position: u64, needed: usize, found: ClaxonFrame) -> ClaxonSeeker
