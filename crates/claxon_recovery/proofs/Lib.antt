@@ -1,0 +1,8 @@
+-- Reads of a source, one after another.
+pub mod Reading
+-- What bytes begin with, by their header and the rest of a frame.
+pub mod Beginnings
+-- Positions at which no frame begins.
+pub mod Positions
+-- Damage, one step after another.
+pub mod Damages
