@@ -6,3 +6,5 @@ pub mod Beginnings
 pub mod Positions
 -- Damage, one step after another.
 pub mod Damages
+-- What stands at a position, while more bytes are read.
+pub mod Standing
