@@ -47,7 +47,6 @@ module _ (info : StreamInfo) where
     step_to_frame to none within frame = record {
       none = none_below to within none;
       passed = λ is. absurd cc;
-      goes_on = λ is. absurd cc;
       last = λ is. inr (subst (BeginsWithStreamFrame info) (sym (rest_of to within)) (frame_longer info (drop to bytes) left frame));
     }
 
@@ -57,7 +56,6 @@ module _ (info : StreamInfo) where
       passing may = record {
         none = none_below to within none;
         passed = λ is. subst (MayBePassed info) (sym (rest_of to within)) may;
-        goes_on = λ is. omega arith;
         last = λ is. absurd cc;
       }
 
@@ -68,11 +66,10 @@ module _ (info : StreamInfo) where
       step_over_long ends long = passing (inr (record { front = drop to bytes; rest = left; joined = refl; long = long; ends = ends }))
 
       -- up to one of which more bytes have to be read
-      pub step_up_to : 1 ≤ to → IsStep info all (record { searched = to; passes_next = false; is_last = false })
-      step_up_to some = record {
+      pub step_up_to : IsStep info all (record { searched = to; passes_next = false; is_last = false })
+      step_up_to = record {
         none = none_below to within none;
         passed = λ is. absurd cc;
-        goes_on = λ is. some;
         last = λ is. absurd cc;
       }
 
@@ -88,7 +85,6 @@ module _ (info : StreamInfo) where
               )
         ];
         passed = λ is. absurd cc;
-        goes_on = λ is. omega arith;
         last = λ is. absurd cc;
       }
 
@@ -97,7 +93,6 @@ module _ (info : StreamInfo) where
     step_to_end end none = record {
       none = none_below (length bytes) (omega arith) none;
       passed = λ is. absurd cc;
-      goes_on = λ is. absurd cc;
       last = λ is. inl (drop_all (length bytes) all (omega (arith, length-append bytes left, ap length end)));
     }
 
@@ -126,6 +121,12 @@ module _ (info : StreamInfo) where
 
   -- ---- the first step
 
+  pub one_first : (cause : Cause) → step_count (first_step cause) ≡ 1
+  one_first (Fault e) = refl
+  one_first (OtherFormat block) = refl
+  one_first Cut = refl
+  one_first TooLong = refl
+
   pub cause_is_none : HasBitDepth info → (cause : Cause) (s : List ℕ) → IsCause info cause s → IsStep info s (first_step cause)
   cause_is_none depth cause s is = go cause is
     where
@@ -133,7 +134,6 @@ module _ (info : StreamInfo) where
       one none = record {
         none = λ at before frame. (let e : at ≡ 0 = omega (arith, before) in none (subst (λ (n : ℕ). BeginsWithStreamFrame info (drop n s)) e frame));
         passed = λ is. absurd cc;
-        goes_on = λ is. omega arith;
         last = λ is. absurd cc;
       }
 
@@ -147,6 +147,5 @@ module _ (info : StreamInfo) where
       go TooLong is = record {
         none = λ at before. absurd (omega (arith, before));
         passed = λ p. inr is;
-        goes_on = λ p. omega arith;
         last = λ p. absurd cc;
       }

@@ -3,9 +3,12 @@ use Rattle.std.proofs.Common.{◌≡◌, ◌⊎◌, inl, inr, ℕ, ◌+◌, ◌<
 use Rattle.std.proofs.lemmas.List.{length-drop}
 use Rattle.claxon.specs.Source.{Source}
 use Rattle.claxon.specs.StreamInfos.{StreamInfo}
-use Rattle.claxon_recovery.specs.AtStart.{BeginsWithStreamFrame, EndsEarly, HasCause}
+use Rattle.std.specs.Prelude.{Ok}
+use Rattle.claxon_recovery.specs.AtStart.{AnswerIsThere, EndsEarly, HasCause}
+use Rattle.claxon_recovery.specs.declared.at_start.Answer.{Answer}
+use Rattle.claxon_recovery.specs.declared.search.Next.{Next}
 use Rattle.claxon_recovery.specs.Parts.{IsCause, IsStep, SourceIsKnown, Stays, parts_info, parts_pending, parts_position, parts_source, unread}
-use Rattle.claxon_recovery.specs.Search.{BeginsWithStreamHeader, NoneBefore}
+use Rattle.claxon_recovery.specs.Search.{NextIsThere, NoneBefore}
 use Rattle.claxon_recovery.specs.Window.{FillIs, NothingIsLeft, ReadFails, Reads, ReadsOn, bytes_left, pending, window_source}
 use Rattle.claxon_recovery.specs.declared.part.Cause.{Cause}
 use Rattle.claxon_recovery.specs.declared.part.Cause.TheVariants.{Cut, Fault, OtherFormat, TooLong}
@@ -14,6 +17,16 @@ use Rattle.claxon_recovery.specs.declared.window.Window.{Window}
 use Rattle.claxon_recovery.proofs.Beginnings.{fault_longer, other_longer}
 use Rattle.claxon_recovery.proofs.Positions.{step_over_header, step_over_long, step_past, step_to_end, step_to_frame, step_up_to}
 use Rattle.claxon_recovery.proofs.Reading.{fails_after, reads_both, reads_none}
+
+-- ---- answers about the same bytes
+
+pub same_next : {i j : StreamInfo} {xs ys : List ℕ} {r q : Next} → i ≡ j → xs ≡ ys → r ≡ q → NextIsThere i xs (Ok r) → NextIsThere j ys (Ok q)
+same_next {i} {j} {xs} {ys} {r} {q} e f h there =
+    subst (λ (x : Next). NextIsThere j ys (Ok x)) h (subst (λ (s : List ℕ). NextIsThere j s (Ok r)) f (subst (λ (k : StreamInfo). NextIsThere k xs (Ok r)) e there))
+
+pub same_answer : {i j : StreamInfo} {xs ys : List ℕ} {r q : Answer} → i ≡ j → xs ≡ ys → r ≡ q → AnswerIsThere i xs (Ok r) → AnswerIsThere j ys (Ok q)
+same_answer {i} {j} {xs} {ys} {r} {q} e f h there =
+    subst (λ (x : Answer). AnswerIsThere j ys (Ok x)) h (subst (λ (s : List ℕ). AnswerIsThere j s (Ok r)) f (subst (λ (k : StreamInfo). AnswerIsThere k xs (Ok r)) e there))
 
 -- ---- causes
 
@@ -75,8 +88,11 @@ module _ {R : Type 0} (source : R → Source ℕ) where
 
       -- ---- steps
 
-      pub end_step : full ≡ false → NoneBefore info (parts_pending b) (length (parts_pending b)) → SourceIsKnown source old → IsStep info (unread source b) (record { searched = length (parts_pending b); passes_next = false; is_last = true })
-      end_step e none known = step_to_end info (parts_pending b) (bytes_left (source (parts_source b))) (nothing_left e known) none
+      pub end_step : (to : ℕ) → full ≡ false → to ≡ length (parts_pending b) → NoneBefore info (parts_pending b) to → SourceIsKnown source old → IsStep info (unread source b) (record { searched = to; passes_next = false; is_last = true })
+      end_step to e all none known =
+          let bytes = parts_pending b in
+          subst (λ (n : ℕ). IsStep info (unread source b) (record { searched = n; passes_next = false; is_last = true })) (sym all)
+          (step_to_end info bytes (bytes_left (source (parts_source b))) (nothing_left e known) (subst (NoneBefore info bytes) all none))
 
       pub past_step : (to : ℕ) → full ≡ false → NoneBefore info (parts_pending b) to → to ≤ length (parts_pending b) → EndsEarly info (drop to (parts_pending b)) → SourceIsKnown source old → IsStep info (unread source b) (record { searched = to + 1; passes_next = false; is_last = false })
       past_step to e none within ends known = step_past info (parts_pending b) (bytes_left (source (parts_source b))) to none within (nothing_left e known) ends

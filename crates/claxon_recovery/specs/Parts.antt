@@ -184,7 +184,6 @@ after_part start (Some (DamagePart damage)) = damage.end
 pub record IsStep (info : StreamInfo) (s : List ℕ) (step : Step) : Type 0 where
   pub none : (at : ℕ) → at < step.searched → BeginsWithStreamFrame info (drop at s) → ⊥
   pub passed : IsTrue step.passes_next → MayBePassed info (drop step.searched s)
-  pub goes_on : step.is_last ≡ false → 1 ≤ step_count step
   pub last : IsTrue step.is_last
       → (drop (step_count step) s ≡ []) ⊎ BeginsWithStreamFrame info (drop (step_count step) s)
 
@@ -238,6 +237,7 @@ module _ {R : Type 0} (source : R → Source ℕ) (old new : Parts R) where
   abbrev pub StepGives : Result Step Error → Type 0
   StepGives (Ok step) =
       Stays × (step_count step ≤ length (parts_pending new))
+      × (step.is_last ≡ false → 1 ≤ step_count step)
       × (SourceIsKnown source old → IsStep (parts_info old) (unread source new) step)
   StepGives (Err e) = (e ≡ OutOfMemory) ⊎ PartFails e
 

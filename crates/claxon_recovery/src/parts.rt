@@ -272,7 +272,7 @@ impl<R: ReadBytes> Parts<R> {
             match next_frame(&mut self.memory, bytes, info, &mut self.budget)? {
                 Next::Frame(at) => return Ok(last_step(at)),
                 Next::OverBudget(at) => return Ok(passed_step(at)),
-                Next::Undecided(at) if !is_full && at == len => return Ok(last_step(len)),
+                Next::Undecided(at) if !is_full && at == len => return Ok(last_step(at)),
                 Next::Undecided(at) if !is_full => return Ok(searched_step(at + 1)),
                 Next::Undecided(at) if at > 0 => return Ok(searched_step(at)),
                 Next::Undecided(at) if wanted == MAX_KEPT => return Ok(passed_step(at)),
