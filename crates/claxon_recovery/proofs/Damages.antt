@@ -4,19 +4,20 @@ use Rattle.std.specs.Prelude.{Ok, Err, IsTrue, Result}
 use Rattle.std.proofs.lemmas.List.{drop-append-le, drop_at, length-take-le, take-append-drop}
 use Rattle.claxon.specs.Errors.{Error}
 use Rattle.claxon.specs.Errors.TheVariants.{OutOfMemory}
+use Rattle.claxon.specs.ShownHead.{HasBitDepth}
 use Rattle.claxon.specs.Source.{Source}
 use Rattle.claxon.specs.StreamInfos.{StreamInfo}
 use Rattle.claxon_recovery.specs.AtStart.{BeginsWithStreamFrame}
 use Rattle.claxon_recovery.specs.Parts.{DamageGives, IsCause, IsStep, NoFrames, PartFails, PartStops, PassesBytes, SourceIsKnown, Stays, TakesStep, parts_info, parts_pending, parts_position, parts_source, unread}
 use Rattle.claxon_recovery.specs.Passed.{IsOfBytes}
-use Rattle.claxon_recovery.specs.Steps.{step_count, step_unsearched}
+use Rattle.claxon_recovery.specs.Steps.{first_step, step_count, step_unsearched}
 use Rattle.claxon_recovery.specs.Window.{Fails, Reads, bytes_left}
 use Rattle.claxon_recovery.specs.declared.part.Cause.{Cause}
 use Rattle.claxon_recovery.specs.declared.part.Damage.{Damage}
 use Rattle.claxon_recovery.specs.declared.parts.Parts.{Parts}
 use Rattle.claxon_recovery.specs.declared.parts.Step.{Step}
 use Rattle.claxon_recovery.specs.declared.passed.Passed.{Passed}
-use Rattle.claxon_recovery.proofs.Positions.{step_taken}
+use Rattle.claxon_recovery.proofs.Positions.{cause_is_none, one_first, step_taken}
 use Rattle.claxon_recovery.proofs.Reading.{fails_after, reads_both, reads_none}
 
 module _ {R : Type 0} (source : R → Source ℕ) where
@@ -47,13 +48,13 @@ module _ {R : Type 0} (source : R → Source ℕ) where
   pub record SoFar (old now : Parts R) (passed : Passed) (front : List ℕ) (unsearched : ℕ) : Type 0 where
     pub more : List ℕ
     pub reads : Reads (source (parts_source old)) (source (parts_source now)) more
-    pub position_is : parts_position now ≡ (parts_position old + length front) % 2 ^ 64
+    pub position_is : parts_position now % 2 ^ 64 ≡ (parts_position old + length front) % 2 ^ 64
     pub info_is : parts_info now ≡ parts_info old
     pub kept : IsOfBytes front unsearched passed
     pub joined : known_of old → unread source old ≡ front ++ unread source now
     pub none : known_of old → NoFrames (parts_info old) (unread source old) (length front) unsearched
 
-  -- more of them than the loop was run
+  -- They are more than so many.
   pub record Passes (old now : Parts R) (passed : Passed) (count : ℕ) : Type 0 where
     pub front : List ℕ
     pub unsearched : ℕ
@@ -61,27 +62,24 @@ module _ {R : Type 0} (source : R → Source ℕ) where
     pub long : count + 1 ≤ length front
 
   module _ (old : Parts R) where
-    pub none_passed : (passed : Passed) → parts_position old < 2 ^ 64 → IsOfBytes [] 0 passed → SoFar old old passed [] 0
-    none_passed passed small kept = record {
+    pub none_passed : (passed : Passed) → IsOfBytes [] 0 passed → SoFar old old passed [] 0
+    none_passed passed kept = record {
       more = [];
       reads = reads_none (source (parts_source old));
-      position_is = same_position (parts_position old) small;
+      position_is = omega arith;
       info_is = refl;
       kept = kept;
       joined = λ known. refl;
       none = λ known. refl;
     }
-      where
-        same_position : (n : ℕ) → n < 2 ^ 64 → n ≡ (n + 0) % 2 ^ 64
-        same_position n small = grind arith
 
     pub no_more : Stays source old old
     no_more = record { more = []; held = sym (append-nil (parts_pending old)); reads = reads_none (source (parts_source old)); position_is = refl }
 
     -- a step more
     module _ (a b c : Parts R) (passed after : Passed) (front : List ℕ) (unsearched : ℕ) (step : Step) where
-      position_of : (k at n pb pc m : ℕ) → m ≡ n + k → pb ≡ (at + n) % 2 ^ 64 → pc ≡ (pb + k) % 2 ^ 64 → pc ≡ (at + m) % 2 ^ 64
-      position_of k at n pb pc m whole e f = grind (arith, f, e, whole)
+      position_of : (k at n pa pb pc m : ℕ) → m ≡ n + k → pb ≡ pa → pa % 2 ^ 64 ≡ (at + n) % 2 ^ 64 → pc ≡ (pb + k) % 2 ^ 64 → pc % 2 ^ 64 ≡ (at + m) % 2 ^ 64
+      position_of k at n pa pb pc m whole same e f = omega (arith, whole, same, e, f)
 
       pub stepped : SoFar old a passed front unsearched → Stays source a b → step_count step ≤ length (parts_pending b) → (known_of a → IsStep (parts_info a) (unread source b) step) → PassesBytes (step_count step) b c → parts_info c ≡ parts_info a → TakesStep (take (step_count step) (parts_pending b)) step passed after
           → SoFar old c after (front ++ take (step_count step) (parts_pending b)) (step_unsearched step unsearched)
@@ -93,7 +91,7 @@ module _ {R : Type 0} (source : R → Source ℕ) where
           record {
             more = h.more ++ stays.more;
             reads = passed_reads k old b c (h.more ++ stays.more) (reads_both h.reads stays.reads) passes;
-            position_is = position_of k (parts_position old) (length front) (parts_position b) (parts_position c) (length (front ++ t)) whole (stays.position_is ∙ h.position_is) passes.position_is;
+            position_is = position_of k (parts_position old) (length front) (parts_position a) (parts_position b) (parts_position c) (length (front ++ t)) whole stays.position_is h.position_is passes.position_is;
             info_is = same ∙ h.info_is;
             kept = takes front unsearched h.kept;
             joined = λ known. h.joined known ∙ ap (λ (l : List ℕ). front ++ l) (stays_unread a b stays (h.reads.known known).known ∙ passed_unread k b c passes within) ∙ sym (append_assoc front t (unread source c));
@@ -116,36 +114,69 @@ module _ {R : Type 0} (source : R → Source ℕ) where
             | inr frame ↦ inr (subst (BeginsWithStreamFrame (parts_info a)) e frame)
           ]
 
-    -- the damage is over
-    module _ (new : Parts R) (passed : Passed) (front : List ℕ) (unsearched : ℕ) (h : SoFar old new passed front unsearched) where
-      pub damage_is : (cause : Cause) → 1 ≤ length front → (known_of old → IsCause (parts_info old) cause (unread source old)) → (known_of old → (unread source new ≡ []) ⊎ BeginsWithStreamFrame (parts_info old) (unread source new))
-          → DamageGives source old new (Ok (record { start = parts_position old; end = parts_position new; cause = cause; unsearched = passed.unsearched; first = passed.first; are_zeros = passed.are_zeros }))
-      damage_is cause some is next = (
-        record {
-          more = h.more;
-          reads = h.reads;
-          is = λ known. record {
-            bytes = front;
-            joined = h.joined known;
-            some = some;
-            cause = is known;
-            unsearched = unsearched;
-            none = h.none known;
-            next = next known;
-            start_is = refl;
-            end_is = h.position_is;
-            unsearched_is = h.kept.count;
-            first = h.kept.first;
-            zeros = h.kept.zeros;
-          };
-        },
-        refl,
-      )
+    -- the first step
+    module _ (c : Parts R) (passed after : Passed) (cause : Cause) (step : Step) (is : step ≡ first_step cause) (some : 1 ≤ length (parts_pending old)) where
+      one : step_count step ≡ 1
+      one = ap step_count is ∙ one_first (parts_info old) cause
 
-      pub too_long : 2 ^ 64 ≤ length front → (e : Error) → PartStops source old new e
-      too_long long e = inr (inr (λ known. (let n = ap length (h.joined known) in omega (arith, long, n, length-append front (unread source new)))))
+      pub within_first : step_count step ≤ length (parts_pending old)
+      within_first = omega (arith, one, some)
+
+      pub first_passed : HasBitDepth (parts_info old) → (known_of old → IsCause (parts_info old) cause (unread source old)) → IsOfBytes [] 0 passed → PassesBytes (step_count step) old c → parts_info c ≡ parts_info old → TakesStep (take (step_count step) (parts_pending old)) step passed after → Passes old c after 0
+      first_passed depth is_cause kept passes same takes = record {
+        front = take (step_count step) (parts_pending old);
+        unsearched = step_unsearched step 0;
+        so_far = stepped old old c passed after [] 0 step (none_passed passed kept) no_more within_first (λ known. subst (IsStep (parts_info old) (unread source old)) (sym is) (cause_is_none (parts_info old) depth cause (unread source old) (is_cause known))) passes same takes;
+        long = (let n = length-take-le (step_count step) (parts_pending old) within_first in omega (arith, n, one));
+      }
+
+    -- one step more
+    module _ (a b c : Parts R) (passed after : Passed) (n : ℕ) (step : Step) (h : Passes old a passed n) (stays : Stays source a b) (within : step_count step ≤ length (parts_pending b))
+        (is : known_of a → IsStep (parts_info a) (unread source b) step) (passes : PassesBytes (step_count step) b c) (same : parts_info c ≡ parts_info a) (takes : TakesStep (take (step_count step) (parts_pending b)) step passed after) where
+      abbrev more : List ℕ
+      more = take (step_count step) (parts_pending b)
+
+      long_more : length (h.front ++ more) ≡ length h.front + step_count step
+      long_more = length-append h.front more ∙ ap (λ (k : ℕ). length h.front + k) (length-take-le (step_count step) (parts_pending b) within)
+
+      so_far_then : SoFar old c after (h.front ++ more) (step_unsearched step h.unsearched)
+      so_far_then = stepped a b c passed after h.front h.unsearched step h.so_far stays within is passes same takes
+
+      pub next_passed : 1 ≤ step_count step → Passes old c after (n + 1)
+      next_passed some = record { front = h.front ++ more; unsearched = step_unsearched step h.unsearched; so_far = so_far_then; long = (let k = h.long in let l = long_more in omega (arith, k, l, some)) }
+
+      -- the damage is over
+      pub damage_is : (cause : Cause) → (known_of old → IsCause (parts_info old) cause (unread source old)) → IsTrue step.is_last
+          → DamageGives source old c (Ok (record { start = parts_position old; end = parts_position c; cause = cause; unsearched = after.unsearched; first = after.first; are_zeros = after.are_zeros }))
+      damage_is cause is_cause last =
+          let f = so_far_then in
+          (
+            record {
+              more = f.more;
+              reads = f.reads;
+              is = λ known. record {
+                bytes = h.front ++ more;
+                joined = f.joined known;
+                some = (let k = h.long in let l = long_more in omega (arith, k, l));
+                cause = is_cause known;
+                unsearched = step_unsearched step h.unsearched;
+                none = f.none known;
+                next = subst (λ (i : StreamInfo). (unread source c ≡ []) ⊎ BeginsWithStreamFrame i (unread source c)) h.so_far.info_is (next_after a b c passed after h.front h.unsearched step stays within is passes last (h.so_far.reads.known known).known);
+                start_is = refl;
+                end_is = (let e = f.position_is in let p = passes.position_is in omega (arith, e, p));
+                unsearched_is = f.kept.count;
+                first = f.kept.first;
+                zeros = f.kept.zeros;
+              };
+            },
+            refl,
+          )
+
+    module _ (a : Parts R) (passed : Passed) (n : ℕ) (h : Passes old a passed n) where
+      pub too_long : 2 ^ 64 ≤ n + 1 → (e : Error) → PartStops source old a e
+      too_long long e = inr (inr (λ known. (let k = ap length (h.so_far.joined known) in let l = h.long in omega (arith, long, k, l, length-append h.front (unread source a)))))
 
       -- a search stops
-      pub stops_later : (b : Parts R) (e : Error) → ((e ≡ OutOfMemory) ⊎ PartFails source new b e) → PartStops source old b e
+      pub stops_later : (b : Parts R) (e : Error) → ((e ≡ OutOfMemory) ⊎ PartFails source a b e) → PartStops source old b e
       stops_later b e (inl m) = inl m
-      stops_later b e (inr f) = inr (inl (record { is_io = f.is_io; fails = fails_after h.reads f.fails }))
+      stops_later b e (inr f) = inr (inl (record { is_io = f.is_io; fails = fails_after h.so_far.reads f.fails }))

@@ -4,6 +4,8 @@ pub mod Reading
 pub mod Beginnings
 -- Positions at which no frame begins.
 pub mod Positions
+-- Bytes of which each is 0, joined.
+pub mod Zeros
 -- Damage, one step after another.
 pub mod Damages
 -- What stands at a position, while more bytes are read.
