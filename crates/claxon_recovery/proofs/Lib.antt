@@ -10,3 +10,5 @@ pub mod Zeros
 pub mod Damages
 -- What stands at a position, while more bytes are read.
 pub mod Standing
+-- A part of a stream, and what is left after it.
+pub mod PartsGiven

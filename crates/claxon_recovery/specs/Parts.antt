@@ -241,12 +241,14 @@ module _ {R : Type 0} (source : R → Source ℕ) (old new : Parts R) where
       × (SourceIsKnown source old → IsStep (parts_info old) (unread source new) step)
   StepGives (Err e) = (e ≡ OutOfMemory) ⊎ PartFails e
 
-  -- The same of damage.
-  abbrev pub DamageGives : Result Damage Error → Type 0
-  DamageGives (Ok damage) =
-      Goes (λ s m. IsDamage (parts_info old) (parts_position old) s m damage)
+  -- Where no frame begins for this cause, the damage that is answered stands there, and is passed.
+  abbrev pub DamageGives : Cause → Result Damage Error → Type 0
+  DamageGives cause (Ok damage) =
+      Goes (λ s m.
+      IsCause (parts_info old) cause s
+      → IsDamage (parts_info old) (parts_position old) s m damage)
       × (parts_position new ≡ damage.end)
-  DamageGives (Err e) = PartStops e
+  DamageGives cause (Err e) = PartStops e
 
 -- The stream is the same.
 abbrev pub KeepsStream : {R : Type 0} → Parts R → Parts R → Type 0

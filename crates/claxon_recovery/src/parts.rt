@@ -12,6 +12,7 @@ ghost use Rattle.std.specs.Prelude.{
   length,
   take,
 };
+ghost use Rattle.claxon.specs.Error.{is_out_of_memory};
 ghost use Rattle.claxon.specs.ShownHead.{HasBitDepth};
 ghost use Rattle.claxon_recovery.specs.Steps.{first_step, step_count};
 
@@ -103,18 +104,14 @@ impl<R: ReadBytes> Parts<R> {
       BeginsParts,
       DamageGives,
       HereGives,
-      IsCause,
       KeepsStream,
       PartGives,
       PassesBytes,
-      SourceIsKnown,
       StepGives,
       TakesStep,
-      parts_info,
       parts_memory,
       parts_pending,
       parts_position,
-      unread,
     };
 
     /// The parts of the stream with this streaminfo, whose next byte is at this position.
@@ -209,12 +206,10 @@ impl<R: ReadBytes> Parts<R> {
         self.budget = self.budget.saturating_add(paid).min(MAX_WASTED);
     }
 
-    // Passes the damage that begins at the position, where no frame stands for this cause.
+    // Passes the damage that begins at the position, if no frame stands there for this cause.
     fn damage(&mut self, cause: Cause) -> Result<Damage>
-        requires some { 1 ≤ length (parts_pending self.old) }
-        requires is_cause { SourceIsKnown R.source self.old
-            → IsCause (parts_info self.old) cause (unread R.source self.old) }
-        ensures gives { DamageGives R.source self.old self.new result }
+        requires { 1 ≤ length (parts_pending self.old) }
+        ensures gives { DamageGives R.source self.old self.new cause result }
         ensures memory_is_counted { MemoryIsCounted result
             (parts_memory self.old) (parts_memory self.new) }
         ensures keeps_stream { KeepsStream self.old self.new }
@@ -325,6 +320,8 @@ fn passed_step(searched: usize) -> Step
 }
 
 // That there are more bytes than can be counted.
-fn too_long() -> Error {
+fn too_long() -> Error
+    ensures { is_out_of_memory result ≡ false }
+{
     Error::Unsupported("2^64 bytes or more that are no frame")
 }

@@ -5,6 +5,6 @@ use Rattle.claxon_recovery.proofs.parts.Parts.damage.Given as goal
 
 abbrev pub invariant-loop : goal.invariant-loop
 invariant-loop g l = record {
-  passes : Passes g.R.ReadBytes.source l.fn.self l.self l.passed l.counter;
+  passes : Passes g.R.ReadBytes.source l.fn.cause l.fn.self l.self l.passed l.counter;
   memory : parts_memory l.self ≡ parts_memory l.fn.self;
 }
