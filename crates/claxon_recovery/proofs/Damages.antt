@@ -162,8 +162,7 @@ module _ {R : Type 0} (source : R → Source ℕ) where
       pub damage_is : IsTrue step.is_last
           → DamageGives source old c cause (Ok (record { start = parts_position old; end = parts_position c; cause = cause; unsearched = after.unsearched; first = after.first; are_zeros = after.are_zeros }))
       damage_is last =
-          let f = so_far_then in
-          (
+          let f = so_far_then in (
             record {
               more = f.more;
               reads = f.reads;

@@ -38,8 +38,7 @@ module _ {R : Type 0} (source : R → Source ℕ) (old a : Parts R) (stays : Sta
     pub frame_part : (b : Parts R) → PassesBytes len a b → PartGives source old b (Ok (Some (FramePart (record { start = parts_position a; end = parts_position b; frame = frame }))))
     frame_part b passes =
         let t = there.0 in
-        let first : take len (parts_pending a) ≡ t = ap (take len) there.3 ∙ take_at t there.1 len (sym there.4) in
-        (
+        let first : take len (parts_pending a) ≡ t = ap (take len) there.3 ∙ take_at t there.1 len (sym there.4) in (
           record {
             more = stays.more;
             reads = passed_reads source len old a b stays.more stays.reads passes;

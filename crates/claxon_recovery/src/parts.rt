@@ -181,8 +181,11 @@ impl<R: ReadBytes> Parts<R> {
         requires { len ≤ length (parts_pending self.old) }
         ensures passes { PassesBytes len self.old self.new }
         ensures keeps_stream { KeepsStream self.old self.new }
-        ensures is_there { result ≡ (record { start = parts_position self.old;
-            end = parts_position self.new; frame = frame }) }
+        ensures is_there { result ≡ (record {
+          start = parts_position self.old;
+          end = parts_position self.new;
+          frame = frame;
+        }) }
     {
         let start = self.position;
         self.usual = self.usual.max(len.saturating_mul(2));

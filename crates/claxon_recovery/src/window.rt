@@ -127,7 +127,9 @@ impl<R: ReadBytes> Window<R> {
             return;
         }
         self.spare.clear();
-        let moved = self.spare.extend_from_slice(&self.bytes.as_slice()[self.taken..]);
+        let moved = self
+            .spare
+            .extend_from_slice(&self.bytes.as_slice()[self.taken..]);
         if moved.is_ok() {
             mem::swap(&mut self.bytes, &mut self.spare);
             self.taken = 0;

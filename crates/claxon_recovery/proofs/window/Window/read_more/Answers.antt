@@ -23,8 +23,7 @@ returns-in_err-take_buffered-in-Some-clause-err g c =
 pub returns-in-None-clause-ok : goal.returns-in-None-clause-ok
 returns-in-None-clause-ok g c =
     let room = c.make_room.ensures in
-    let eof = rw c.in-None.is at c.in_ok-byte.ensures.eof_is_sound in
-    (
+    let eof = rw c.in-None.is at c.in_ok-byte.ensures.eof_is_sound in (
       record { more = []; held = room.pending ∙ sym (append-nil _); reads = rw room.source at (eof_reads eof) },
       λ known. eof_is_end eof (rw room.source known),
     )
