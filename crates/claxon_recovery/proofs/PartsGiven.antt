@@ -1,6 +1,6 @@
 -- A part of a stream, and what is left after it.
 use Rattle.std.proofs.Common.{◌≡◌, inl, inr, ℕ, ◌+◌, ◌%◌, ◌^◌, ◌≤◌, List, [], ◌++◌, length, take, Some, None, refl, sym, ap, subst, ◌∙◌, arith, length-append}
-use Rattle.std.specs.Prelude.{Ok}
+use Rattle.std.specs.Prelude.{Ok, Err, Option, Result}
 use Rattle.std.specs.Global.{Global}
 use Rattle.std.proofs.lemmas.List.{take_at}
 use Rattle.claxon.specs.DecodedFrames.{DecodedFrame}
@@ -9,10 +9,11 @@ use Rattle.claxon.specs.Source.{Source}
 use Rattle.claxon.specs.StreamInfos.{StreamInfo}
 use Rattle.claxon_seek.specs.AtStart.{BeginsWithLength}
 use Rattle.claxon_recovery.specs.AtStart.{StreamFrame}
-use Rattle.claxon_recovery.specs.Parts.{DamageGives, IsCause, IsDamage, PartGives, PartStops, PassesBytes, SourceIsKnown, Stays, parts_info, parts_pending, parts_position, parts_source, unread}
+use Rattle.claxon_recovery.specs.Parts.{DamageGives, IsCause, IsDamage, PartErrIsExcused, PartGives, PartIsThere, PartStops, PassesBytes, SourceIsKnown, Stays, parts_info, parts_pending, parts_position, parts_source, unread}
 use Rattle.claxon_recovery.specs.Window.{NothingIsLeft, bytes_left}
 use Rattle.claxon_recovery.specs.declared.part.Cause.{Cause}
 use Rattle.claxon_recovery.specs.declared.part.Damage.{Damage}
+use Rattle.claxon_recovery.specs.declared.part.Part.{Part}
 use Rattle.claxon_recovery.specs.declared.part.Part.TheVariants.{Frame as FramePart, Damage as DamagePart}
 use Rattle.claxon_recovery.specs.declared.parts.Parts.{Parts}
 use Rattle.claxon_recovery.proofs.Damages.{passed_reads, passed_unread, stays_unread}
@@ -72,3 +73,14 @@ module _ {R : Type 0} (source : R → Source ℕ) (old a : Parts R) (stays : Sta
   stops_after b e (inl m) = inl m
   stops_after b e (inr (inl f)) = inr (inl (record { is_io = f.is_io; fails = fails_after stays.reads f.fails }))
   stops_after b e (inr (inr long)) = inr (inr (λ known. subst (λ (s : List ℕ). 2 ^ 64 ≤ length s) (sym (stays_unread source old a stays known)) (long (stays.reads.known known).known)))
+
+-- ---- the clauses of a call, from all that it answers
+
+module _ {R : Type 0} (source : R → Source ℕ) (old : Parts R) where
+  pub given_there : (b : Parts R) (r : Result (Option Part) Error) → PartGives source old b r → PartIsThere source old b r
+  given_there b (Ok found) h = h
+  given_there b (Err e) h = tt
+
+  pub given_excused : (b : Parts R) (r : Result (Option Part) Error) → PartGives source old b r → PartErrIsExcused source old b r
+  given_excused b (Ok found) h = tt
+  given_excused b (Err e) h = h

@@ -13,6 +13,8 @@ use Rattle.std.specs.Prelude.{
   suc,
   Bool,
   false,
+  IfErr,
+  IfOk,
   IsTrue,
   List,
   [],
@@ -214,12 +216,23 @@ module _ {R : Type 0} (source : R → Source ℕ) (old new : Parts R) where
       (e ≡ OutOfMemory)
       ⊎ (PartFails e ⊎ (SourceIsKnown source old → 2 ^ 64 ≤ length (unread source old)))
 
-  -- The part that is answered stands there, and is passed.
+  -- both of it
   abbrev pub PartGives : Result (Option Part) Error → Type 0
   PartGives (Ok found) =
       Goes (λ s m. IsPart (parts_info old) (parts_position old) s m found)
       × (parts_position new ≡ after_part (parts_position old) found)
   PartGives (Err e) = PartStops e
+
+  -- A part that is answered stands there, and is passed, where the bytes are known; no read of the
+  -- source failed.
+  abbrev pub PartIsThere : Result (Option Part) Error → Type 0
+  PartIsThere result = IfOk result (λ found.
+      Goes (λ s m. IsPart (parts_info old) (parts_position old) s m found)
+      × (parts_position new ≡ after_part (parts_position old) found))
+
+  -- An Err says that memory was refused, that a read failed, or that too many bytes are no frame.
+  abbrev pub PartErrIsExcused : Result (Option Part) Error → Type 0
+  PartErrIsExcused result = IfErr result PartStops
 
   -- What is answered stands there, and nothing is passed.
   abbrev pub HereGives : Result Here Error → Type 0

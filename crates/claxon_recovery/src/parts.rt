@@ -105,7 +105,9 @@ impl<R: ReadBytes> Parts<R> {
       DamageGives,
       HereGives,
       KeepsStream,
+      PartErrIsExcused,
       PartGives,
+      PartIsThere,
       PassesBytes,
       StepGives,
       TakesStep,
@@ -136,8 +138,28 @@ impl<R: ReadBytes> Parts<R> {
         })
     }
 
-    /// The next part; None at the end.
+    /// The next part; None at the end. A part begins after the one before it, the first one at the position that was passed in.
+    ///
+    /// A frame is decoded where it has no more than 512 KiB. Damage goes up to the next frame, which is searched from its second byte
+    /// on, within a budget: where very many headers lead to no frame, as in bytes that were made on purpose, further ones are passed
+    /// unsearched, and counted. So the time is linear in the bytes.
+    ///
+    /// # Errors
+    ///
+    /// `IoError` if a read of the source fails; bytes may be lost then. `OutOfMemory` exactly where memory for a block was refused.
+    /// `Unsupported` if 2^64 bytes or more are no frame.
     pub fn next_part(&mut self) -> Result<Option<Part>>
+        ensures part_is_there { PartIsThere R.source self.old self.new result }
+        ensures err_is_excused { PartErrIsExcused R.source self.old self.new result }
+        ensures memory_is_counted { MemoryIsCounted result
+            (parts_memory self.old) (parts_memory self.new) }
+        ensures keeps_stream { KeepsStream self.old self.new }
+    {
+        self.next_part_exact()
+    }
+
+    // `next_part`, with one clause of what it answers.
+    fn next_part_exact(&mut self) -> Result<Option<Part>>
         ensures gives { PartGives R.source self.old self.new result }
         ensures memory_is_counted { MemoryIsCounted result
             (parts_memory self.old) (parts_memory self.new) }
