@@ -1,16 +1,13 @@
 -- What bytes begin with, by their header and the rest of a frame.
-use Rattle.std.proofs.Common.{◌≡◌, ◌⊎◌, inl, inr, ℕ, ◌<◌, ◌≤◌, List, [], ◌++◌, length, drop, Option, None, Some, refl, sym, ap, subst, ◌∙◌, append_assoc, append-nil, arith}
+use Rattle.std.proofs.Common.{◌≡◌, inl, inr, ℕ, ◌<◌, List, [], ◌++◌, length, Option, None, Some, refl, sym, subst, ◌∙◌, append-nil}
 use Rattle.std.specs.Prelude.{Ok, Err}
-use Rattle.std.specs.Global.{Global}
 use Rattle.claxon.specs.Block.{BlockValue}
-use Rattle.claxon.specs.BlockInfo.{HeaderAnswer, HeaderBytesFault, HeaderOf}
+use Rattle.claxon.specs.BlockInfo.{HeaderOf}
 use Rattle.claxon.specs.BlockInfos.{BlockInfo}
-use Rattle.claxon.specs.DecodedFrames.{DecodedFrame}
-use Rattle.claxon.specs.Error.{IsFault, IsIo}
+use Rattle.claxon.specs.Error.{IsIo}
 use Rattle.claxon.specs.Errors.{Error}
 use Rattle.claxon.specs.Errors.TheVariants.{IoError, OutOfMemory}
-use Rattle.claxon.specs.Fault.{Fault}
-use Rattle.claxon.specs.Frame.{Frame, FrameBytesFault, StreamFormat}
+use Rattle.claxon.specs.Frame.{Frame, StreamFormat}
 use Rattle.claxon.specs.FrameReader.{block_view}
 use Rattle.claxon.specs.Prefix.{BeginsWith}
 use Rattle.claxon.specs.ShownHead.{HasBitDepth}
@@ -19,7 +16,7 @@ use Rattle.claxon.proofs.BlockInfo.{header_has_two_bytes, headers_unambiguous}
 use Rattle.claxon.proofs.FormatLaws.{frames_unambiguous}
 use Rattle.claxon.proofs.FrameHeaders.{frame_has_header}
 use Rattle.claxon_seek.specs.AtStart.{BeginsWithLength, FaultIsTaken, FrameAtStart, HeaderAtStart, NoHeaderAtStart}
-use Rattle.claxon_seek.specs.Find.{BeginsWithFrame, EndsInFrame, EndsInHeader, HasFormat, WantedFrame, WantedHeader, known_format}
+use Rattle.claxon_seek.specs.Find.{WantedHeader, known_format}
 use Rattle.claxon_seek.proofs.Searches.{begins_longer, cut_by_io, frame_is_wanted, header_cut_by_io, header_longer, other_header}
 use Rattle.claxon_recovery.specs.AtStart.{BeginsWithStreamFrame, EndsEarly, FrameStands, HasFaultOf, HasOtherHeader, HeaderStands, NoFrameWhateverFollows, StreamFrame}
 use Rattle.claxon_recovery.specs.declared.at_start.NoHeader.TheVariants.{CutHeader, Faulty}

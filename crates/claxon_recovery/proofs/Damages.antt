@@ -1,7 +1,7 @@
 -- Damage, one step after another.
-use Rattle.std.proofs.Common.{◌≡◌, ◌⊎◌, inl, inr, ℕ, ◌+◌, ◌%◌, ◌^◌, ◌<◌, ◌≤◌, false, List, [], ◌++◌, length, drop, take, refl, sym, ap, subst, ◌∙◌, append_assoc, append-nil, arith, length-append}
-use Rattle.std.specs.Prelude.{Ok, Err, IsTrue, Result}
-use Rattle.std.proofs.lemmas.List.{drop-append-le, drop_at, length-take-le, take-append-drop}
+use Rattle.std.proofs.Common.{◌≡◌, ◌⊎◌, inl, inr, ℕ, ◌+◌, ◌%◌, ◌^◌, ◌≤◌, false, List, [], ◌++◌, length, drop, take, refl, sym, ap, subst, ◌∙◌, append_assoc, append-nil, arith, length-append}
+use Rattle.std.specs.Prelude.{Ok, Err, IsTrue}
+use Rattle.std.proofs.lemmas.List.{drop_at, length-take-le, take-append-drop}
 use Rattle.claxon.specs.Errors.{Error}
 use Rattle.claxon.specs.Error.{is_out_of_memory}
 use Rattle.claxon.specs.Errors.TheVariants.{FormatError, IoError, OutOfMemory, Unsupported}
@@ -13,9 +13,8 @@ use Rattle.claxon_recovery.specs.AtStart.{BeginsWithStreamFrame}
 use Rattle.claxon_recovery.specs.Parts.{DamageGives, IsCause, IsStep, NoFrames, PartFails, PartStops, PassesBytes, SourceIsKnown, Stays, TakesStep, parts_info, parts_pending, parts_position, parts_source, unread}
 use Rattle.claxon_recovery.specs.Passed.{IsOfBytes}
 use Rattle.claxon_recovery.specs.Steps.{first_step, step_count, step_unsearched}
-use Rattle.claxon_recovery.specs.Window.{Fails, Reads, bytes_left}
+use Rattle.claxon_recovery.specs.Window.{Reads, bytes_left}
 use Rattle.claxon_recovery.specs.declared.part.Cause.{Cause}
-use Rattle.claxon_recovery.specs.declared.part.Damage.{Damage}
 use Rattle.claxon_recovery.specs.declared.parts.Parts.{Parts}
 use Rattle.claxon_recovery.specs.declared.parts.Step.{Step}
 use Rattle.claxon_recovery.specs.declared.passed.Passed.{Passed}

@@ -1,13 +1,13 @@
 -- Reads of a source, one after another.
-use Rattle.std.proofs.Common.{◌≡◌, ◌⊎◌, inl, inr, ℕ, ◌<◌, ◌≤◌, List, [], ◌∷◌, ◌++◌, length, take, Option, None, Some, refl, sym, ap, subst, ◌∙◌, append_assoc, append-nil, arith, length-append}
+use Rattle.std.proofs.Common.{◌≡◌, ◌⊎◌, inl, inr, ℕ, ◌<◌, ◌≤◌, List, [], ◌++◌, length, take, Option, None, Some, refl, sym, ap, subst, ◌∙◌, append_assoc, append-nil, arith, length-append}
 use Rattle.std.specs.Prelude.{IfErr, IfSome, Result, Ok, Err}
 use Rattle.std.proofs.lemmas.List.{nil_from_length}
 use Rattle.claxon_input.proofs.Sources.{same_front_as}
 use Rattle.claxon.specs.Error.{IsIo}
 use Rattle.claxon.specs.Errors.{Error}
-use Rattle.claxon.specs.Source.{HasMore, IsFront, IsKnown, MeetsEof, ReadFailedOnce, ReadFailedOrEof, Source, Skips, SourceReadFailed, Takes, TakesFront}
+use Rattle.claxon.specs.Source.{HasMore, IsFront, IsKnown, MeetsEof, ReadFailedOrEof, Source, Skips, SourceReadFailed, Takes, TakesFront}
 use Rattle.claxon.specs.State.{remaining_as}
-use Rattle.claxon_recovery.specs.Window.{Fails, HasFailed, ReadFails, Reads, ReadsOn, WasRead, bytes_left, pending, window_source}
+use Rattle.claxon_recovery.specs.Window.{Fails, ReadFails, Reads, ReadsOn, WasRead, bytes_left, pending, window_source}
 use Rattle.claxon_recovery.specs.declared.window.Window.{Window}
 
 -- ---- bytes that are taken
@@ -94,18 +94,6 @@ fails_after {a} {b} {c} {x} h k = record {
 }
 
 -- ---- reads that failed
-
-failure : (a b : Source ℕ) (p q : Option (List ℕ)) (xs : List ℕ) → TakesFront p q xs → IfSome p (λ _. SourceReadFailed a b) → IsKnown p → SourceReadFailed a b
-failure a b None q xs l c known = absurd known
-failure a b (Some all) q xs l c known = c
-
-pub byte_fails : {a b : Source ℕ} {n : ℕ} → ReadFailedOnce a b n → Fails a b
-byte_fails {a} {b} h = record {
-  loans = h.rest.loans;
-  known = λ known.
-      let t = taken a.remaining b.remaining h.rest.moved h.rest.front known in
-      record { known = t.0; moved = h.rest.moved; left = t.1; failed = failure a b a.remaining b.remaining h.rest.moved h.rest.front h.cause known };
-}
 
 -- bytes that are there can be skipped, unless the source fails
 enough : (a b : Source ℕ) (p : Option (List ℕ)) (n : ℕ) → (IsKnown p → n ≤ length (bytes_of p)) → IfSome p (λ all. (length all < n) ⊎ SourceReadFailed a b) → IsKnown p → SourceReadFailed a b

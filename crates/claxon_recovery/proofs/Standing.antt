@@ -1,5 +1,5 @@
 -- What stands at a position, while more bytes are read.
-use Rattle.std.proofs.Common.{◌≡◌, ◌⊎◌, inl, inr, ℕ, ◌+◌, ◌<◌, ◌≤◌, Bool, true, false, List, [], ◌++◌, length, drop, refl, sym, ap, subst, ◌∙◌, append_assoc, append-nil, arith, length-append}
+use Rattle.std.proofs.Common.{◌≡◌, ℕ, ◌+◌, ◌≤◌, Bool, true, false, List, [], ◌++◌, length, drop, refl, sym, ap, subst, ◌∙◌, append_assoc, append-nil, arith}
 use Rattle.std.proofs.lemmas.List.{length-drop}
 use Rattle.claxon.specs.Source.{Source}
 use Rattle.claxon.specs.StreamInfos.{StreamInfo}
@@ -7,16 +7,16 @@ use Rattle.std.specs.Prelude.{Ok}
 use Rattle.claxon_recovery.specs.AtStart.{AnswerIsThere, EndsEarly, HasCause}
 use Rattle.claxon_recovery.specs.declared.at_start.Answer.{Answer}
 use Rattle.claxon_recovery.specs.declared.search.Next.{Next}
-use Rattle.claxon_recovery.specs.Parts.{IsCause, IsStep, SourceIsKnown, Stays, parts_info, parts_pending, parts_position, parts_source, unread}
+use Rattle.claxon_recovery.specs.Parts.{IsCause, IsStep, SourceIsKnown, Stays, parts_pending, parts_position, parts_source, unread}
 use Rattle.claxon_recovery.specs.Search.{NextIsThere, NoneBefore}
-use Rattle.claxon_recovery.specs.Window.{FillIs, NothingIsLeft, ReadFails, Reads, ReadsOn, bytes_left, pending, window_source}
+use Rattle.claxon_recovery.specs.Window.{FillIs, NothingIsLeft, ReadsOn, bytes_left, pending, window_source}
 use Rattle.claxon_recovery.specs.declared.part.Cause.{Cause}
 use Rattle.claxon_recovery.specs.declared.part.Cause.TheVariants.{Cut, Fault, OtherFormat, TooLong}
 use Rattle.claxon_recovery.specs.declared.parts.Parts.{Parts}
 use Rattle.claxon_recovery.specs.declared.window.Window.{Window}
 use Rattle.claxon_recovery.proofs.Beginnings.{fault_longer, other_longer}
-use Rattle.claxon_recovery.proofs.Positions.{step_over_header, step_over_long, step_past, step_to_end, step_to_frame, step_up_to}
-use Rattle.claxon_recovery.proofs.Reading.{fails_after, reads_both, reads_none}
+use Rattle.claxon_recovery.proofs.Positions.{step_over_long, step_past, step_to_end}
+use Rattle.claxon_recovery.proofs.Reading.{reads_both, reads_none}
 
 -- ---- answers about the same bytes
 

@@ -1,18 +1,5 @@
 -- What bytes in memory begin with: a frame of the stream, or none.
-use Rattle.std.specs.Prelude.{
-  ◌≡◌,
-  ◌⊎◌,
-  ◌<◌,
-  ℕ,
-  List,
-  ◌++◌,
-  length,
-  Some,
-  None,
-  Result,
-  Ok,
-  Err,
-}
+use Rattle.std.specs.Prelude.{◌⊎◌, ◌<◌, ℕ, List, ◌++◌, length, Some, None, Result, Ok, Err}
 use Rattle.std.specs.Global.{Global}
 use Rattle.claxon.specs.BlockInfo.{HeaderBytesFault, HeaderOf}
 use Rattle.claxon.specs.BlockInfos.{BlockInfo}

@@ -1,35 +1,5 @@
 -- The parts of a stream: its frames, and the damage between them.
-use Rattle.std.specs.Prelude.{
-  ◌≡◌,
-  ◌⊎◌,
-  ◌↔◌,
-  ◌+◌,
-  ◌%◌,
-  ◌^◌,
-  ◌<◌,
-  ◌≤◌,
-  ℕ,
-  zero,
-  suc,
-  Bool,
-  false,
-  IfErr,
-  IfOk,
-  IsTrue,
-  List,
-  [],
-  ◌++◌,
-  drop,
-  length,
-  Option,
-  None,
-  Some,
-  Result,
-  Ok,
-  Err,
-}
-use Rattle.std.specs.Global.{Global}
-use Rattle.claxon.specs.DecodedFrames.{DecodedFrame}
+use Rattle.std.specs.Prelude.{◌≡◌, ◌⊎◌, ◌↔◌, ◌+◌, ◌%◌, ◌^◌, ◌<◌, ◌≤◌, ℕ, zero, suc, false, IfErr, IfOk, IsTrue, List, [], ◌++◌, drop, length, Option, None, Some, Result, Ok, Err}
 use Rattle.claxon.specs.Error.{IsIo}
 use Rattle.claxon.specs.Errors.{Error}
 use Rattle.claxon.specs.Errors.TheVariants.{OutOfMemory}

@@ -1,5 +1,5 @@
 -- What is kept of the bytes of damage.
-use Rattle.std.specs.Prelude.{◌≡◌, ◌↔◌, ◌+◌, ◌%◌, ◌^◌, All, ℕ, IsTrue, List, [], ◌++◌, replicate}
+use Rattle.std.specs.Prelude.{◌≡◌, ◌↔◌, ◌+◌, ◌%◌, ◌^◌, ℕ, IsTrue, List, ◌++◌, replicate}
 use Rattle.claxon_blocks.specs.FirstBytes.{AreZeros, update_first}
 use Rattle.claxon_blocks.specs.declared.frames.first_bytes.FirstBytes.{FirstBytes}
 use Rattle.claxon_recovery.specs.declared.passed.Passed.{Passed}

@@ -1,19 +1,5 @@
 -- What a search for the next frame in bytes answers.
-use Rattle.std.specs.Prelude.{
-  ◌≡◌,
-  ◌<◌,
-  ◌≤◌,
-  ◌*◌,
-  ℕ,
-  List,
-  length,
-  drop,
-  Some,
-  None,
-  Result,
-  Ok,
-  Err,
-}
+use Rattle.std.specs.Prelude.{◌<◌, ◌≤◌, ◌*◌, ℕ, List, length, drop, Some, None, Result, Ok, Err}
 use Rattle.claxon.specs.BlockInfos.{BlockInfo}
 use Rattle.claxon.specs.Errors.{Error}
 use Rattle.claxon.specs.Promises.{IsOutOfMemory}

@@ -1,12 +1,7 @@
 -- Positions that are passed at once.
 use Rattle.std.specs.Prelude.{◌+◌, ℕ, false, true, if◌then◌else◌}
 use Rattle.claxon_recovery.specs.declared.part.Cause.{Cause}
-use Rattle.claxon_recovery.specs.declared.part.Cause.TheVariants.{
-  Cut,
-  Fault,
-  OtherFormat,
-  TooLong,
-}
+use Rattle.claxon_recovery.specs.declared.part.Cause.TheVariants.{TooLong}
 use Rattle.claxon_recovery.specs.declared.parts.Step.{Step}
 
 -- how many they are

@@ -1,4 +1,3 @@
-use Rattle.std.proofs.Common.{◌∙◌}
 use Rattle.std.proofs.lemmas.Result.{err_from_is_err_and}
 use Rattle.claxon_recovery.proofs.PartsGiven.{damage_part, end_part, frame_part, frame_within, stops_after}
 use Rattle.claxon_recovery.proofs.parts.Parts.next_part_exact.Goals as goal

@@ -1,5 +1,4 @@
-use Rattle.std.proofs.Common.{List, ℕ, sym, subst}
-use Rattle.claxon_recovery.specs.Passed.{IsOfBytes}
+use Rattle.std.proofs.Common.{sym}
 use Rattle.claxon_recovery.proofs.parts.Parts.take.Goals as goal
 
 pub returns-then-step-clause-takes : goal.returns-then-step-clause-takes
