@@ -10,5 +10,7 @@ pub mod Zeros
 pub mod Damages
 -- What stands at a position, while more bytes are read.
 pub mod Standing
+-- The frame that comes next is the part.
+pub mod FoundFrames
 -- A part of a stream, and what is left after it.
 pub mod PartsGiven

@@ -5,17 +5,19 @@ use Rattle.std.specs.Global.{Global}
 use Rattle.std.proofs.lemmas.List.{take_at}
 use Rattle.claxon.specs.DecodedFrames.{DecodedFrame}
 use Rattle.claxon.specs.Errors.{Error}
+use Rattle.claxon.specs.ShownHead.{HasBitDepth}
 use Rattle.claxon.specs.Source.{Source}
 use Rattle.claxon.specs.StreamInfos.{StreamInfo}
 use Rattle.claxon_seek.specs.AtStart.{BeginsWithLength}
 use Rattle.claxon_recovery.specs.AtStart.{StreamFrame}
-use Rattle.claxon_recovery.specs.Parts.{DamageGives, IsCause, IsDamage, PartErrIsExcused, PartGives, PartIsThere, PartStops, PassesBytes, SourceIsKnown, Stays, parts_info, parts_pending, parts_position, parts_source, unread}
+use Rattle.claxon_recovery.specs.Parts.{DamageGives, FrameIsFound, IsCause, IsDamage, PartErrIsExcused, PartGives, PartIsThere, PartStops, PassesBytes, SourceIsKnown, Stays, parts_info, parts_pending, parts_position, parts_source, unread}
 use Rattle.claxon_recovery.specs.Window.{NothingIsLeft, bytes_left}
 use Rattle.claxon_recovery.specs.declared.part.Cause.{Cause}
 use Rattle.claxon_recovery.specs.declared.part.Damage.{Damage}
 use Rattle.claxon_recovery.specs.declared.part.Part.{Part}
 use Rattle.claxon_recovery.specs.declared.part.Part.TheVariants.{Frame as FramePart, Damage as DamagePart}
 use Rattle.claxon_recovery.specs.declared.parts.Parts.{Parts}
+use Rattle.claxon_recovery.proofs.FoundFrames.{frame_is_part}
 use Rattle.claxon_recovery.proofs.Damages.{passed_reads, passed_unread, stays_unread}
 use Rattle.claxon_recovery.proofs.Reading.{fails_after, reads_both}
 
@@ -84,3 +86,7 @@ module _ {R : Type 0} (source : R → Source ℕ) (old : Parts R) where
   pub given_excused : (b : Parts R) (r : Result (Option Part) Error) → PartGives source old b r → PartErrIsExcused source old b r
   given_excused b (Ok found) h = tt
   given_excused b (Err e) h = h
+
+  pub given_found : HasBitDepth (parts_info old) → (b : Parts R) (r : Result (Option Part) Error) → PartGives source old b r → FrameIsFound source old b r
+  given_found depth b (Ok found) h = λ known value t rest code e few. frame_is_part (parts_info old) value t code depth (unread source old) rest e few (parts_position old) (unread source b) found (h.0.is known)
+  given_found depth b (Err e) h = tt

@@ -3,7 +3,7 @@ use Rattle.std.specs.Prelude.{◌⊎◌, ◌<◌, ℕ, List, ◌++◌, length, S
 use Rattle.std.specs.Global.{Global}
 use Rattle.claxon.specs.BlockInfo.{HeaderBytesFault, HeaderOf}
 use Rattle.claxon.specs.BlockInfos.{BlockInfo}
-use Rattle.claxon.specs.DecodedFrame.{FrameWithHeader, decoded_view}
+use Rattle.claxon.specs.DecodedFrame.{FrameValue, FrameWithHeader, decoded_view}
 use Rattle.claxon.specs.DecodedFrames.{DecodedFrame}
 use Rattle.claxon.specs.Error.{IsFault}
 use Rattle.claxon.specs.Errors.{Error}
@@ -48,10 +48,12 @@ module _ (info : StreamInfo) where
   NoFrameWhateverFollows s = (more : List ℕ) → BeginsWithStreamFrame (s ++ more) → ⊥
 
   -- The bytes of a frame of the stream.
+  abbrev pub StreamFrameCode : FrameValue → List ℕ → Type 0
+  StreamFrameCode value t =
+      FrameWithHeader (known_format (Some info)) value t × HasFormat (Some info) value.info
+
   abbrev pub StreamFrame : DecodedFrame Global → List ℕ → Type 0
-  StreamFrame frame t =
-      FrameWithHeader (known_format (Some info)) (decoded_view frame) t
-      × HasFormat (Some info) frame.info
+  StreamFrame frame = StreamFrameCode (decoded_view frame)
 
   -- ---- where none begins
 

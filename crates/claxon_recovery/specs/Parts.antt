@@ -1,5 +1,6 @@
 -- The parts of a stream: its frames, and the damage between them.
 use Rattle.std.specs.Prelude.{◌≡◌, ◌⊎◌, ◌↔◌, ◌+◌, ◌%◌, ◌^◌, ◌<◌, ◌≤◌, ℕ, zero, suc, false, IfErr, IfOk, IsTrue, List, [], ◌++◌, drop, length, Option, None, Some, Result, Ok, Err}
+use Rattle.claxon.specs.DecodedFrame.{FrameValue, decoded_view}
 use Rattle.claxon.specs.Error.{IsIo}
 use Rattle.claxon.specs.Errors.{Error}
 use Rattle.claxon.specs.Errors.TheVariants.{OutOfMemory}
@@ -14,6 +15,7 @@ use Rattle.claxon_recovery.specs.AtStart.{
   HasFaultOf,
   HasOtherHeader,
   StreamFrame,
+  StreamFrameCode,
 }
 use Rattle.claxon_recovery.specs.Passed.{AreFirstOf, IsOfBytes}
 use Rattle.claxon_recovery.specs.Search.{BeginsWithStreamHeader}
@@ -159,6 +161,11 @@ pub record IsStep (info : StreamInfo) (s : List ℕ) (step : Step) : Type 0 wher
   pub last : IsTrue step.is_last
       → (drop (step_count step) s ≡ []) ⊎ BeginsWithStreamFrame info (drop (step_count step) s)
 
+-- The part is a frame with this value.
+abbrev pub IsFrameOf : FrameValue → Option Part → Type 0
+IsFrameOf value (Some (FramePart there)) = decoded_view there.frame ≡ value
+IsFrameOf value _ = ⊥
+
 -- ---- what calls answer
 
 module _ {R : Type 0} (source : R → Source ℕ) (old new : Parts R) where
@@ -199,6 +206,14 @@ module _ {R : Type 0} (source : R → Source ℕ) (old new : Parts R) where
   PartIsThere result = IfOk result (λ found.
       Goes (λ s m. IsPart (parts_info old) (parts_position old) s m found)
       × (parts_position new ≡ after_part (parts_position old) found))
+
+  -- If a frame of the stream of at most 524,288 bytes comes next, that is answered, and it alone is
+  -- passed, or there is an Err.
+  abbrev pub FrameIsFound : Result (Option Part) Error → Type 0
+  FrameIsFound result = IfOk result (λ found.
+      SourceIsKnown source old → (value : FrameValue) (t rest : List ℕ)
+      → StreamFrameCode (parts_info old) value t → unread source old ≡ t ++ rest
+      → length t ≤ 524288 → IsFrameOf value found × (unread source new ≡ rest))
 
   -- An Err says that memory was refused, that a read failed, or that too many bytes are no frame.
   abbrev pub PartErrIsExcused : Result (Option Part) Error → Type 0

@@ -103,6 +103,7 @@ impl<R: ReadBytes> Parts<R> {
     ghost use Rattle.claxon_recovery.specs.Parts.{
       BeginsParts,
       DamageGives,
+      FrameIsFound,
       HereGives,
       KeepsStream,
       PartErrIsExcused,
@@ -150,6 +151,7 @@ impl<R: ReadBytes> Parts<R> {
     /// `Unsupported` if 2^64 bytes or more are no frame.
     pub fn next_part(&mut self) -> Result<Option<Part>>
         ensures part_is_there { PartIsThere R.source self.old self.new result }
+        ensures frame_is_found { FrameIsFound R.source self.old self.new result }
         ensures err_is_excused { PartErrIsExcused R.source self.old self.new result }
         ensures memory_is_counted { MemoryIsCounted result
             (parts_memory self.old) (parts_memory self.new) }

@@ -50,7 +50,10 @@ fn is_wanted(part: &Part, wanted: Wanted) -> bool {
     match (part, wanted) {
         (Part::Frame(there), Wanted::Frame(start, end, value)) => {
             let block = &there.frame.block;
-            there.start == start && there.end == end && block.channel(0) == [value; 16].as_slice()
+            there.start == start
+                && there.end == end
+                && block.channels() == 1
+                && block.channel(0) == [value; 16].as_slice()
         }
         (Part::Damage(damage), Wanted::Fault(start, end, are_zeros)) => {
             matches!(&damage.cause, Cause::Fault(_)) && is_damage(damage, start, end, are_zeros)
