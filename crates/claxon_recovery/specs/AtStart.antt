@@ -34,7 +34,12 @@ use Rattle.claxon_recovery.specs.declared.at_start.NoHeader.TheVariants.{
 use Rattle.claxon_recovery.specs.declared.at_start.RestHere.{RestHere}
 use Rattle.claxon_recovery.specs.declared.at_start.RestHere.TheVariants.{Broken, CutFrame, Whole}
 use Rattle.claxon_recovery.specs.declared.part.Cause.{Cause}
-use Rattle.claxon_recovery.specs.declared.part.Cause.TheVariants.{Cut, Fault as FaultCause, OtherFormat, TooLong}
+use Rattle.claxon_recovery.specs.declared.part.Cause.TheVariants.{
+  Cut,
+  Fault as FaultCause,
+  OtherFormat,
+  TooLong,
+}
 
 module _ (info : StreamInfo) where
   -- ---- frames of the stream: with the streaminfo's number of channels and bit depth

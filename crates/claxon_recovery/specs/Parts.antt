@@ -1,5 +1,32 @@
 -- The parts of a stream: its frames, and the damage between them.
-use Rattle.std.specs.Prelude.{◌≡◌, ◌⊎◌, ◌↔◌, ◌+◌, ◌%◌, ◌^◌, ◌<◌, ◌≤◌, ℕ, zero, suc, false, IfErr, IfOk, IsTrue, List, [], ◌++◌, drop, length, Option, None, Some, Result, Ok, Err}
+use Rattle.std.specs.Prelude.{
+  ◌≡◌,
+  ◌⊎◌,
+  ◌↔◌,
+  ◌+◌,
+  ◌%◌,
+  ◌^◌,
+  ◌<◌,
+  ◌≤◌,
+  ℕ,
+  zero,
+  suc,
+  false,
+  IfErr,
+  IfOk,
+  IsTrue,
+  List,
+  [],
+  ◌++◌,
+  drop,
+  length,
+  Option,
+  None,
+  Some,
+  Result,
+  Ok,
+  Err,
+}
 use Rattle.claxon.specs.DecodedFrame.{FrameValue, decoded_view}
 use Rattle.claxon.specs.Error.{IsIo}
 use Rattle.claxon.specs.Errors.{Error}

@@ -32,8 +32,8 @@ use std::alloc::Global;
 // How many bytes are read at first.
 const USUAL: usize = 64 * 1024;
 
-// How many samples the blocks of headers may have that lead to no frame, and how many more for each byte that is passed. So the time
-// is linear in the bytes.
+// How many samples the blocks of headers may have that lead to no frame, and how many more for each byte that is passed. So the
+// time is linear in the bytes.
 const MAX_WASTED: u64 = 1 << 25;
 
 const WASTED_OF_A_BYTE: u64 = 4;
@@ -141,14 +141,14 @@ impl<R: ReadBytes> Parts<R> {
 
     /// The next part; None at the end. A part begins after the one before it, the first one at the position that was passed in.
     ///
-    /// A frame is decoded where it has no more than 512 KiB. Damage goes up to the next frame, which is searched from its second byte
-    /// on, within a budget: where very many headers lead to no frame, as in bytes that were made on purpose, further ones are passed
-    /// unsearched, and counted. So the time is linear in the bytes.
+    /// A frame is decoded where it has no more than 512 KiB. Damage goes up to the next frame, which is searched from its
+    /// second byte on, within a budget: where very many headers lead to no frame, as in bytes that were made on purpose,
+    /// further ones are passed unsearched, and counted. So the time is linear in the bytes.
     ///
     /// # Errors
     ///
-    /// `IoError` if a read of the source fails; bytes may be lost then. `OutOfMemory` exactly where memory for a block was refused.
-    /// `Unsupported` if 2^64 bytes or more are no frame.
+    /// `IoError` if a read of the source fails; bytes may be lost then. `OutOfMemory` exactly where memory for a block was
+    /// refused. `Unsupported` if 2^64 bytes or more are no frame.
     pub fn next_part(&mut self) -> Result<Option<Part>>
         ensures part_is_there { PartIsThere R.source self.old self.new result }
         ensures frame_is_found { FrameIsFound R.source self.old self.new result }

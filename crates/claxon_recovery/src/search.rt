@@ -58,8 +58,8 @@ pub(crate) fn next_frame(
     Ok(Next::Undecided(bytes.len()))
 }
 
-// What the bytes begin with. The samples of a block whose header is there are taken from the budget, and the bytes of a frame that
-// was read in vain. So the time is linear in the bytes and the budget.
+// What the bytes begin with. The samples of a block whose header is there are taken from the budget, and the bytes of a frame
+// that was read in vain. So the time is linear in the bytes and the budget.
 #[inline(never)]
 fn try_frame(
     memory: &mut BlockMemory,
