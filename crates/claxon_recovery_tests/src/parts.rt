@@ -1,5 +1,5 @@
-//! Parts of streams, by rows. Frames have one channel of 8 bits and 16 samples of one value but where a row says so, and were made by
-//! the definitions of RFC 9639, section 9.
+//! Parts of streams, by rows. Frames have one channel of 8 bits and 16 samples of one value but where a row says so, and were
+//! made by the definitions of RFC 9639, section 9.
 use claxon::metadata::StreamInfo;
 use claxon_recovery::{Cause, Damage, Part, Parts};
 use std::alloc::Global;
@@ -29,8 +29,8 @@ const INFO: StreamInfo = StreamInfo {
     md5sum: [0; 16],
 };
 
-// A part, by the positions of its first byte and after its last one: a frame, with the value of its samples; or damage, with its cause,
-// and whether its bytes are zeros.
+// A part, by the positions of its first byte and after its last one: a frame, with the value of its samples; or damage, with
+// its cause, and whether its bytes are zeros.
 #[derive(Clone, Copy)]
 enum Wanted {
     Frame(u64, u64, i32),
@@ -105,7 +105,10 @@ fn parts_of_streams(rt: HostRuntime) -> claxon::Result<()> {
         (&[&first[..9], second], &[Wanted::Fault(100, 109, false), Wanted::Frame(109, 120, 2)]),
         (&[&first[2..], second], &[Wanted::Fault(100, 109, false), Wanted::Frame(109, 120, 2)]),
         // A frame of another format.
-        (&[first, &OF_TWO_CHANNELS, second], &[Wanted::Frame(100, 111, 1), Wanted::OtherFormat(111, 124), Wanted::Frame(124, 135, 2)]),
+        (
+            &[first, &OF_TWO_CHANNELS, second],
+            &[Wanted::Frame(100, 111, 1), Wanted::OtherFormat(111, 124), Wanted::Frame(124, 135, 2)],
+        ),
         // The stream ends within a frame, and with one byte more.
         (&[first, &second[..10]], &[Wanted::Frame(100, 111, 1), Wanted::Cut(111, 121, false)]),
         (&[first, &[0]], &[Wanted::Frame(100, 111, 1), Wanted::Cut(111, 112, true)]),
