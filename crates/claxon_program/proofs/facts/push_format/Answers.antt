@@ -1,5 +1,5 @@
 use Rattle.std.proofs.Common.{append-nil, append_assoc}
-use Rattle.claxon_inspect.proofs.facts.push_format.Goals as goal
+use Rattle.claxon_program.proofs.facts.push_format.Goals as goal
 
 pub returns : goal.returns
 returns g c =

@@ -2,7 +2,7 @@
 ghost use Rattle.std.specs.Option.{option_map};
 ghost use Rattle.claxon.specs.Tags.{remaining_tags};
 ghost use Rattle.claxon_write.specs.InnerWriter.{SameWriter};
-ghost use Rattle.claxon_inspect.specs.Facts.{
+ghost use Rattle.claxon_program.specs.Facts.{
   FactsAreSound,
   WriteFactsFaultIsSound,
   WriteFactsIsSound,

@@ -1,8 +1,8 @@
 use Rattle.std.proofs.Common.{List, ℕ, subst, ◌∙◌}
 use Rattle.claxon_write.specs.Written.{Puts}
 use Rattle.claxon_program.proofs.Printing.{put_and_flushed}
-use Rattle.claxon_inspect.proofs.Flushing.{put_not_flushed}
-use Rattle.claxon_inspect.proofs.facts.write_facts.Goals as goal
+use Rattle.claxon_program.proofs.Flushing.{put_not_flushed}
+use Rattle.claxon_program.proofs.facts.write_facts.Goals as goal
 
 pub returns-clause-is_sound : goal.returns-clause-is_sound
 returns-clause-is_sound g c =

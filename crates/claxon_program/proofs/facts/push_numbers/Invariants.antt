@@ -1,6 +1,6 @@
 use Rattle.std.proofs.Common.{◌≡◌, ◌++◌, string_bytes, take}
-use Rattle.claxon_inspect.specs.Facts.{numbers_text}
-use Rattle.claxon_inspect.proofs.facts.push_numbers.Given as goal
+use Rattle.claxon_program.specs.Facts.{numbers_text}
+use Rattle.claxon_program.proofs.facts.push_numbers.Given as goal
 
 -- The lines of the numbers so far.
 abbrev pub invariant-loop-name : goal.invariant-loop-name

@@ -15,13 +15,13 @@ use Rattle.std.specs.Prelude.{
 use Rattle.std.specs.Borrow.{Bor}
 use Rattle.claxon_command_line.specs.declared.arguments.Notice.{Notice}
 use Rattle.claxon_command_line.specs.declared.arguments.Notice.TheVariants.{Usage}
-use Rattle.claxon_commands.specs.declared.verify.options.FileNames.{FileNames}
-use Rattle.claxon_commands.specs.declared.verify.options.NamedFiles.{NamedFiles}
-use Rattle.claxon_commands.specs.declared.verify.options.NamedFiles.TheVariants.{
+use Rattle.claxon_verdict.specs.declared.options.FileNames.{FileNames}
+use Rattle.claxon_verdict.specs.declared.options.NamedFiles.{NamedFiles}
+use Rattle.claxon_verdict.specs.declared.options.NamedFiles.TheVariants.{
   List as NamedInList,
   Operands as NamedByOperands,
 }
-use Rattle.claxon_commands.specs.declared.verify.options.VerifyRequest.{VerifyRequest}
+use Rattle.claxon_verdict.specs.declared.options.VerifyRequest.{VerifyRequest}
 
 -- how many operands there are
 abbrev pub names_total : FileNames → ℕ

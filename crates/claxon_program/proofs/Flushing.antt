@@ -10,7 +10,7 @@ use Rattle.claxon_write.specs.Written.{FailsToPut, IsUnflushed, Puts, contents_w
 use Rattle.claxon_write.specs.declared.output.Output.{Output}
 use Rattle.claxon_write.proofs.Counts.{flush_failed_after, flushed_after}
 use Rattle.claxon_write.proofs.Puts.{fails_after, fails_as}
-use Rattle.claxon_inspect.specs.Facts.{FailsToFlushAfter}
+use Rattle.claxon_program.specs.Facts.{FailsToFlushAfter}
 
 -- bytes that were put, and then a flush
 module _ {W : Type 0} {contents : W → Option (List ℕ)} {bytes : List ℕ} {a b : Output W} (c : Output W) (h : Puts contents bytes a b) (u : IsUnflushed a b) where

@@ -1,6 +1,6 @@
 use Rattle.std.proofs.Common.{◌≤◌}
 use Rattle.claxon_command_line.specs.Arguments.{words_left}
-use Rattle.claxon_commands.proofs.verify.options.FileNamesIterator.next.Given as goal
+use Rattle.claxon_verdict.proofs.options.FileNamesIterator.next.Given as goal
 
 -- No more words are left than at first.
 abbrev pub invariant-loop-argument : goal.invariant-loop-argument

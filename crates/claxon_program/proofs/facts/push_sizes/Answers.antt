@@ -1,7 +1,7 @@
 use Rattle.std.proofs.Common.{◌≡◌, ℕ, None, Option, Some, ap, append-nil, append_assoc}
 use Rattle.std.specs.Prelude.{IsSomeAnd}
 use Rattle.std.specs.Option.{MatchOption}
-use Rattle.claxon_inspect.proofs.facts.push_sizes.Goals as goal
+use Rattle.claxon_program.proofs.facts.push_sizes.Goals as goal
 
 -- the same number with more bits
 widened : (size wide : Option ℕ) → MatchOption size (wide ≡ None) (λ x. IsSomeAnd wide (λ y. y ≡ x)) → wide ≡ size

@@ -1,9 +1,9 @@
-//! The arguments of the command `verify`.
-ghost use Rattle.claxon_commands.specs.VerifyOptions.{FilesAre, RequestIsSound};
+//! The arguments of the command `verify`: which files, and what is said of them.
+ghost use Rattle.claxon_verdict.specs.Options.{FilesAre, RequestIsSound};
 
+use crate::print::PrintOptions;
 use claxon_command_line::arguments::{Argument, Arguments, Notice};
 use claxon_command_line::names::not_utf8_name;
-use claxon_verdict::print::PrintOptions;
 
 /// What a command line asks for.
 #[derive(Drop)]
@@ -32,7 +32,7 @@ pub struct FileNames<'a> {
 
 impl<'a> FileNames<'a> {
     ghost use Rattle.std.specs.Prelude.{◌≡◌};
-    ghost use Rattle.claxon_commands.specs.VerifyOptions.{names_total};
+    ghost use Rattle.claxon_verdict.specs.Options.{names_total};
 
     // The operands among these words, of which there are so many.
     fn new(words: &'a [String], count: usize) -> FileNames<'a>
