@@ -123,28 +123,51 @@ struct claxon_head {
 /* The parts of a head. */
 enum claxon_part { CLAXON_MARKER = 0, CLAXON_METADATA_HEADER = 1, CLAXON_METADATA_CONTENT = 2 };
 
+/* A frame that was decoded: where it stands in its stream, and how it is numbered. */
+struct claxon_frame {
+    uint64_t position;    /* of its first byte */
+    uint64_t end;         /* of the byte after its last one */
+    uint64_t number;      /* the coded number: that of the frame, or with a variable block size that of its first sample */
+    uint32_t duration;    /* the number of samples of each channel */
+    uint32_t is_variable; /* 1 if the header says that the block size may vary, else 0 */
+};
+
 /* The frames of a stream whose bytes are handed in. It may be copied. */
 struct claxon_frames {
     uint64_t position; /* of the first byte that is needed */
-    /* The next six are for the calls alone. */
+    /* The next seven are for the calls alone. */
     size_t tried, summed;
     uint16_t crc;
     uint8_t is_near;
-    uint64_t wasted, counted;
-    size_t needed; /* after NEED_MORE how many bytes are needed at least, from `position` on; else 0 */
+    uint64_t wasted, counted, faults;
+    size_t needed;            /* after NEED_MORE how many bytes are needed at least, from `position` on; else 0 */
+    struct claxon_frame last; /* the frame that was decoded last */
 };
 
 /* A search for the next frame of a stream whose bytes are handed in. It may be copied. */
 struct claxon_search {
     uint64_t position; /* of the first byte that is needed */
-    /* The next eight are for the calls alone. */
+    /* The next nine are for the calls alone. */
     size_t tried, summed;
     uint16_t crc;
     uint8_t is_near;
-    uint64_t wasted_by_tries, counted_by_tries;
+    uint64_t wasted_by_tries, counted_by_tries, faults;
     uint64_t wasted, counted;
     uint8_t has_passed_over; /* 1 if a header was passed over untried, as very much work had led to no frame; else 0 */
     size_t needed;           /* after NEED_MORE how many bytes are needed at least, from `position` on; else 0 */
+};
+
+/* Where the blocks of a stream begin in time, by the frames that were noted. It may be copied. */
+struct claxon_clock {
+    uint64_t state[5]; /* for the calls alone */
+};
+
+/* A seek to a sample, in a stream whose bytes are handed in. It may be copied. */
+struct claxon_seeker {
+    uint64_t state[33];        /* for the calls alone */
+    uint64_t position;         /* after NEED_MORE where the bytes begin that are needed, before or after those that are held, */
+    size_t needed;             /*     and how many are needed at least; else 0 */
+    struct claxon_frame found; /* the frame that was found */
 };
 
 /* The layout that the library has: that of Linux on x86-64 and 64-bit ARM, which it is built for. */
@@ -179,20 +202,31 @@ static_assert(sizeof(struct claxon_head) == 56 && offsetof(struct claxon_head, p
                   offsetof(struct claxon_head, has_comment) == 31 && offsetof(struct claxon_head, most) == 32 &&
                   offsetof(struct claxon_head, needed) == 40 && offsetof(struct claxon_head, part) == 48,
               "claxon is for Linux on x86-64 and 64-bit ARM: struct claxon_head has another layout here");
-static_assert(sizeof(struct claxon_frames) == 56 && offsetof(struct claxon_frames, position) == 0 &&
+static_assert(sizeof(struct claxon_frame) == 32 && offsetof(struct claxon_frame, position) == 0 &&
+                  offsetof(struct claxon_frame, end) == 8 && offsetof(struct claxon_frame, number) == 16 &&
+                  offsetof(struct claxon_frame, duration) == 24 && offsetof(struct claxon_frame, is_variable) == 28,
+              "claxon is for Linux on x86-64 and 64-bit ARM: struct claxon_frame has another layout here");
+static_assert(sizeof(struct claxon_frames) == 96 && offsetof(struct claxon_frames, position) == 0 &&
                   offsetof(struct claxon_frames, tried) == 8 && offsetof(struct claxon_frames, summed) == 16 &&
                   offsetof(struct claxon_frames, crc) == 24 && offsetof(struct claxon_frames, is_near) == 26 &&
                   offsetof(struct claxon_frames, wasted) == 32 && offsetof(struct claxon_frames, counted) == 40 &&
-                  offsetof(struct claxon_frames, needed) == 48,
+                  offsetof(struct claxon_frames, faults) == 48 && offsetof(struct claxon_frames, needed) == 56 &&
+                  offsetof(struct claxon_frames, last) == 64,
               "claxon is for Linux on x86-64 and 64-bit ARM: struct claxon_frames has another layout here");
-static_assert(sizeof(struct claxon_search) == 80 && offsetof(struct claxon_search, position) == 0 &&
+static_assert(sizeof(struct claxon_search) == 88 && offsetof(struct claxon_search, position) == 0 &&
                   offsetof(struct claxon_search, tried) == 8 && offsetof(struct claxon_search, summed) == 16 &&
                   offsetof(struct claxon_search, crc) == 24 && offsetof(struct claxon_search, is_near) == 26 &&
                   offsetof(struct claxon_search, wasted_by_tries) == 32 &&
-                  offsetof(struct claxon_search, counted_by_tries) == 40 && offsetof(struct claxon_search, wasted) == 48 &&
-                  offsetof(struct claxon_search, counted) == 56 && offsetof(struct claxon_search, has_passed_over) == 64 &&
-                  offsetof(struct claxon_search, needed) == 72,
+                  offsetof(struct claxon_search, counted_by_tries) == 40 && offsetof(struct claxon_search, faults) == 48 &&
+                  offsetof(struct claxon_search, wasted) == 56 && offsetof(struct claxon_search, counted) == 64 &&
+                  offsetof(struct claxon_search, has_passed_over) == 72 && offsetof(struct claxon_search, needed) == 80,
               "claxon is for Linux on x86-64 and 64-bit ARM: struct claxon_search has another layout here");
+static_assert(sizeof(struct claxon_clock) == 40,
+              "claxon is for Linux on x86-64 and 64-bit ARM: struct claxon_clock has another layout here");
+static_assert(sizeof(struct claxon_seeker) == 312 && offsetof(struct claxon_seeker, state) == 0 &&
+                  offsetof(struct claxon_seeker, position) == 264 && offsetof(struct claxon_seeker, needed) == 272 &&
+                  offsetof(struct claxon_seeker, found) == 280,
+              "claxon is for Linux on x86-64 and 64-bit ARM: struct claxon_seeker has another layout here");
 #endif
 
 /* Reads the head that the bytes begin with. With CLAXON_OK, `info` is filled.
@@ -319,12 +353,12 @@ void claxon_frames_start(struct claxon_frames *frames, uint64_t position);
 /* Goes on from another position, as after damage. Work that led to no frame stays counted, so that the time is linear. */
 void claxon_frames_go_on(struct claxon_frames *frames, uint64_t position);
 
-/* Decodes the next frame. With CLAXON_OK, `block` is filled, channels * duration samples are written, interleaved, and
- * `position` is moved after the frame. NEED_MORE: no whole frame is there; or very many tries were in vain, to which no stream
- * of an encoder leads. BUFFER_TOO_SMALL: the samples of the frame don't fit; `block` is filled, and nothing else is changed.
- * FORMAT_ERROR, UNSUPPORTED: no frame begins there; `position` is moved after what is wrong. INPUT_ENDS: the stream ends within
- * the frame. NO_MORE: it ends after the last frame, or fewer than two bytes later. `position` is at its end then. FORMAT_ERROR,
- * UNSUPPORTED, INPUT_ENDS, OUT_OF_MEMORY: `error` gets a text. */
+/* Decodes the next frame. With CLAXON_OK, `block` and `last` are filled, channels * duration samples are written, interleaved,
+ * and `position` is moved after the frame. NEED_MORE: no whole frame is there; or very many tries were in vain, as in a stream
+ * that was made to cost time. BUFFER_TOO_SMALL: a frame's header is there, and its samples don't fit; `block` is filled from
+ * it, and nothing else is changed. FORMAT_ERROR, UNSUPPORTED: no frame begins there; `position` is moved after what is wrong.
+ * INPUT_ENDS: the stream ends within the frame. NO_MORE: it ends after the last frame, or fewer than two bytes later.
+ * `position` is at its end then. FORMAT_ERROR, UNSUPPORTED, INPUT_ENDS, OUT_OF_MEMORY: `error` gets a text. */
 uint32_t claxon_frames_next(struct claxon_frames *frames, const uint8_t *bytes, size_t length, uint64_t at, uint32_t is_end,
                             const struct claxon_info *info, int32_t *samples, size_t capacity, struct claxon_block *block,
                             char *error, size_t error_size);
@@ -337,14 +371,51 @@ uint32_t claxon_frames_next_planar(struct claxon_frames *frames, const uint8_t *
 /* Begins a search at this position. */
 void claxon_search_start(struct claxon_search *search, uint64_t position);
 
-/* Goes on from another position, as after frames that were decoded. What was charged stays, so that the time is linear. */
-void claxon_search_go_on(struct claxon_search *search, uint64_t position);
+/* Goes on from another position, as after these frames. What was charged stays, and what their faults cost is charged, so that
+ * the time is linear. */
+void claxon_search_go_on(struct claxon_search *search, struct claxon_frames *frames, uint64_t position);
 
 /* Finds the next frame of the stream, as claxon_find_frame does. With CLAXON_OK, *found is its position, `block` is filled from
  * its header, and `position` is moved after the frame; claxon_frames_go_on goes to it. NO_MORE: there is none, but for what
  * has_passed_over says; `position` is at the end of the stream. */
 uint32_t claxon_search_next(struct claxon_search *search, const uint8_t *bytes, size_t length, uint64_t at, uint32_t is_end,
                             const struct claxon_info *info, uint64_t *found, struct claxon_block *block);
+
+/* Begins a clock: it knows what the streaminfo says, which frames may correct. block.time is wrong of a shorter last block
+ * where the streaminfo has two block sizes, and of each block of encoders from before headers had a bit for a variable block
+ * size. */
+void claxon_clock_start(struct claxon_clock *clock, const struct claxon_info *info);
+
+/* Finds the sample of each channel at which the block of a frame begins, by those that were noted. 1: *time is it. 0: it isn't
+ * known, and nothing is changed. It is known of each frame after those that were noted, one after another from the first; and
+ * of any frame, once two that follow one another were noted, unless these show that the block size changes. */
+uint32_t claxon_clock_time(const struct claxon_clock *clock, const struct claxon_frame *frame, uint64_t *time);
+
+/* Notes a frame that was decoded, after its time was asked for: frames->last, or seeker->found. */
+void claxon_clock_note(struct claxon_clock *clock, const struct claxon_frame *frame);
+
+/* 1 if the clock doesn't know yet what coded numbers count, else 0. Before a seek the first two frames of the stream are to be
+ * noted then. */
+uint32_t claxon_clock_needs_frames(const struct claxon_clock *clock);
+
+/* Begins a seek to this sample of each channel in a stream of `length` bytes; UINT64_MAX: it isn't known. The first frame is at
+ * info->first_frame. Times are those of the clock, or block.time where it doesn't know them. */
+void claxon_seeker_start(struct claxon_seeker *seeker, const struct claxon_info *info, uint64_t length, uint64_t sample,
+                         const struct claxon_clock *clock);
+
+/* Seeks. With CLAXON_OK, `found` is a frame whose block has the sample, `block` is filled from its header, with the time by the
+ * clock, and its samples are written, interleaved; claxon_frames_go_on to found.end goes on after it. Headers lead there: they
+ * and the length are never believed, and where they mislead all bytes are searched. NO_MORE: no frame from the first one on has
+ * the sample. OVER_BUDGET: none was found, and headers were passed over untried, as very much work had led to no frame.
+ * BUFFER_TOO_SMALL: the samples don't fit; `block` is filled, and the call is to be repeated. After NEED_MORE bytes are needed
+ * from seeker->position on; fewer may be handed in. */
+uint32_t claxon_seeker_next(struct claxon_seeker *seeker, const uint8_t *bytes, size_t length, uint64_t at, uint32_t is_end,
+                            const struct claxon_info *info, int32_t *samples, size_t capacity, struct claxon_block *block);
+
+/* As claxon_seeker_next, with the samples of one channel after those of another. */
+uint32_t claxon_seeker_next_planar(struct claxon_seeker *seeker, const uint8_t *bytes, size_t length, uint64_t at,
+                                   uint32_t is_end, const struct claxon_info *info, int32_t *samples, size_t capacity,
+                                   struct claxon_block *block);
 
 #ifdef __cplusplus
 }

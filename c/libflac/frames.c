@@ -82,12 +82,11 @@ static int is_too_wide(const struct claxon_block *block, const int32_t *samples,
     return above >> bits_per_sample != 0;
 }
 
-/* The time of the engine's block. The engine multiplies the number of a frame in its header by the one block size of the head,
- * or else by the block's own. Where the streaminfo has two sizes the number is that of a sample, as libFLAC takes it. Without a
- * streaminfo the block size is that of the first block, which a head that was made has too. */
+/* The time of the engine's block as libFLAC has it. Where the streaminfo has two sizes the number of a frame in its header is
+ * that of a sample. Without a streaminfo the block size is that of the first block, which a head that was made has too. */
 static uint64_t time_of(struct decoder *self, const struct claxon_stream *engine, const uint8_t *bytes) {
     const struct claxon_block *block = &engine->block;
-    uint64_t number = block->time / block->duration;
+    uint64_t number = engine->frames.last.number;
     uint32_t least = self->has_streaminfo ? self->streaminfo.min_blocksize : engine->info.min_block_size;
     uint32_t most = self->has_streaminfo ? self->streaminfo.max_blocksize : engine->info.max_block_size;
     if (raw_has_sample_number(bytes) || (least == most && (self->has_streaminfo || most > 0))) {

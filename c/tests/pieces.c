@@ -143,7 +143,7 @@ static void compare_frames(struct pieces *pieces, const struct claxon_info *info
         at = (size_t)from + 1;
         wanted = claxon_find_frame(pieces->bytes, pieces->length, &at, info, &budget, &other);
         pieces->dropped = 0;
-        claxon_search_go_on(&search, from + 1);
+        claxon_search_go_on(&search, frames, from + 1);
         status = next_found(pieces, &search, info, &found, &block, name);
         expect(status == wanted && (status != CLAXON_OK || (found == at && is_same_block(&block, &other))), name, "a search");
         if (status == CLAXON_OK) {

@@ -78,6 +78,16 @@ class Head(ctypes.Structure):
     ]
 
 
+class Frame(ctypes.Structure):
+    _fields_ = [
+        ("position", ctypes.c_uint64),
+        ("end", ctypes.c_uint64),
+        ("number", ctypes.c_uint64),
+        ("duration", ctypes.c_uint32),
+        ("is_variable", ctypes.c_uint32),
+    ]
+
+
 class Frames(ctypes.Structure):
     _fields_ = [
         ("position", ctypes.c_uint64),
@@ -87,7 +97,9 @@ class Frames(ctypes.Structure):
         ("is_near", ctypes.c_uint8),
         ("wasted", ctypes.c_uint64),
         ("counted", ctypes.c_uint64),
+        ("faults", ctypes.c_uint64),
         ("needed", ctypes.c_size_t),
+        ("last", Frame),
     ]
 
 
@@ -100,10 +112,24 @@ class Search(ctypes.Structure):
         ("is_near", ctypes.c_uint8),
         ("wasted_by_tries", ctypes.c_uint64),
         ("counted_by_tries", ctypes.c_uint64),
+        ("faults", ctypes.c_uint64),
         ("wasted", ctypes.c_uint64),
         ("counted", ctypes.c_uint64),
         ("has_passed_over", ctypes.c_uint8),
         ("needed", ctypes.c_size_t),
+    ]
+
+
+class Clock(ctypes.Structure):
+    _fields_ = [("state", ctypes.c_uint64 * 5)]
+
+
+class Seeker(ctypes.Structure):
+    _fields_ = [
+        ("state", ctypes.c_uint64 * 33),
+        ("position", ctypes.c_uint64),
+        ("needed", ctypes.c_size_t),
+        ("found", Frame),
     ]
 
 
@@ -174,9 +200,10 @@ def _declare(found: ctypes.CDLL) -> None:
     text, memory = ctypes.c_char_p, ctypes.c_void_p
     info, block = ctypes.POINTER(Info), ctypes.POINTER(Block)
     head, frames, search = (ctypes.POINTER(struct) for struct in (Head, Frames, Search))
+    frame, clock, seeker = (ctypes.POINTER(struct) for struct in (Frame, Clock, Seeker))
     md5, digest = ctypes.POINTER(Md5), ctypes.POINTER(ctypes.c_uint8 * 16)
     held: List[Any] = [memory, size, position, number]
-    frame: List[Any] = [memory, size, to_size, info, memory, size, block, text, size]
+    samples: List[Any] = [info, memory, size, block]
     arguments: Dict[str, List[Any]] = {
         "claxon_open": [text, size, info, text, size],
         "claxon_head_start": [head, position],
@@ -185,21 +212,24 @@ def _declare(found: ctypes.CDLL) -> None:
         "claxon_next_tag": [text, size, to_size, ctypes.POINTER(Tag), text, size],
         "claxon_frames_start": [frames, position],
         "claxon_frames_go_on": [frames, position],
-        "claxon_frames_next": [frames, *held, info, memory, size, block, text, size],
-        "claxon_frames_next_planar": [frames, *held, info, memory, size, block, text, size],
+        "claxon_frames_next": [frames, *held, *samples, text, size],
+        "claxon_frames_next_planar": [frames, *held, *samples, text, size],
         "claxon_search_start": [search, position],
-        "claxon_search_go_on": [search, position],
+        "claxon_search_go_on": [search, frames, position],
         "claxon_search_next": [search, *held, info, ctypes.POINTER(position), block],
-        "claxon_next_block_planar": frame,
-        "claxon_find_frame": [memory, size, to_size, info, ctypes.POINTER(position), block],
-        "claxon_seek": [memory, size, info, position, position, to_size, block],
+        "claxon_clock_start": [clock, info],
+        "claxon_clock_time": [clock, frame, ctypes.POINTER(position)],
+        "claxon_clock_note": [clock, frame],
+        "claxon_clock_needs_frames": [clock],
+        "claxon_seeker_start": [seeker, info, position, position, clock],
+        "claxon_seeker_next_planar": [seeker, *held, *samples],
         "claxon_md5_start": [md5],
         "claxon_md5_samples": [md5, memory, size, number],
         "claxon_md5_finish": [md5, digest],
     }
     for call, types in arguments.items():
         getattr(found, call).argtypes = types
-        is_silent = call.endswith(("_start", "_go_on", "_finish"))
+        is_silent = call.endswith(("_start", "_go_on", "_note", "_finish"))
         getattr(found, call).restype = None if is_silent else number
 
 

@@ -41,8 +41,7 @@ class Flac(Stream):
             self._head.go_on()
             assert self._head.streaminfo is not None
             self.info = self._head.streaminfo
-            first_frame = self._window.position()
-            self._seeker = Seeker(self._frames, first_frame, self.info.samples)
+            self._seeker = Seeker(self._frames)
         except BaseException:
             if self._owned is not None:
                 self._owned.close()

@@ -1,7 +1,7 @@
 """The frames of a stream, decoded one after another."""
 import ctypes
 from array import array
-from typing import Optional
+from typing import Callable, Optional
 
 from claxon import _calls
 from claxon._calls import BUFFER_TOO_SMALL, ERROR_SIZE, INPUT_ENDS, MAX_FRAME_BYTES, NEED_MORE
@@ -22,7 +22,6 @@ class Frames:
         self.samples: Optional["array[int]"] = None  # its samples, unless they were taken
         self.is_planar = True  # whether they stand channel after channel
         self.place = 0  # the position in the file of the frame that was tried last
-        self._size = 0  # the largest number of samples of each channel in a frame
         self._capacity = 1  # a pointer to no samples would be null
         self._address = 0  # of the samples
         self._lost_at: Optional[int] = None  # where `resync` began, as long as it finds no frame
@@ -32,6 +31,7 @@ class Frames:
         self._next, self._search = _calls.Frames(), _calls.Search()
         library.claxon_frames_start(self._next, window.position())
         library.claxon_search_start(self._search, window.position())
+        self._clock: Optional[_calls.Clock] = None  # once the streaminfo is known
         # What each call takes, as the pointers that it would be made into.
         self._pointers = [ctypes.byref(part) for part in (self._next, info, self.found)]
 
@@ -45,20 +45,7 @@ class Frames:
         self._lost_at = None
         if status != OK:
             raise self.fault(status)
-        self._size = max(self._size, int(self.found.duration))
         return True
-
-    def time(self) -> int:
-        """The number of samples of each channel before the frame that was decoded.
-
-        Where a streaminfo has two bounds, and all blocks have the same size, the library counts the
-        blocks before a shorter last one as so short too.
-        """
-        found, info = self.found, self.info
-        is_counted = info.min_block_size == info.max_block_size
-        if is_counted or self.window.byte(self.place + 1) & 1:  # a block size that changes
-            return int(found.time)
-        return int(found.time) // int(found.duration) * self._size
 
     def count(self) -> int:
         """The number of samples of the frame that was decoded, of all channels."""
@@ -107,7 +94,7 @@ class Frames:
         """Decodes the next frame, for which it reads what it takes, at most so many bytes at once.
         Returns a status.
         """
-        window, ahead = self.window, self._ahead
+        window, ahead, time = self.window, self._ahead, self.found.time
         self.place, self._ahead = window.position(), None
         if ahead is not None and self.is_planar == is_planar and self.samples is not None:
             window.at.value += ahead
@@ -115,26 +102,84 @@ class Frames:
         self.is_planar = is_planar
         if self._next.position != self.place:
             library.claxon_frames_go_on(self._next, self.place)
-        status = self._try_frame()
+        status = self._fitting(self._call)
         while status == NEED_MORE:
             if not window.fill(step) and not window.has_ended:
                 return NEED_MORE
-            status = self._try_frame()
+            status = self._fitting(self._call)
         if status == OK:
             window.pass_to(self._next.position)
+            if ahead is None:
+                self._note(self._next.last)
+            else:
+                self.found.time = time
         return status
 
-    def _try_frame(self) -> int:
-        """Decodes the next frame of the bytes that are held: the status."""
+    def _fitting(self, call: Callable[[], int]) -> int:
+        """The status of a call that decodes a frame of the bytes that are held, with memory for its
+        samples.
+        """
         while True:
             if self.samples is None:
                 self.samples = array("i", bytes(4 * self._capacity))
                 self._address = self.samples.buffer_info()[0]
-            status = self._call()
+            status = call()
             if status != BUFFER_TOO_SMALL:
                 return status
             self.samples = None
             self._capacity = self.count()
+
+    def clock(self) -> _calls.Clock:
+        """Where the blocks begin in time, by the frames that were decoded."""
+        if self._clock is None:
+            self._clock = _calls.Clock()
+            library.claxon_clock_start(self._clock, self.info)
+        return self._clock
+
+    def _note(self, frame: _calls.Frame) -> None:
+        """Notes the frame that was decoded. Where the streaminfo hasn't one block size, the clock
+        tells the time of its block better than the header.
+        """
+        clock, time, info = self.clock(), ctypes.c_uint64(self.found.time), self.info
+        library.claxon_clock_time(clock, frame, time)
+        library.claxon_clock_note(clock, frame)
+        if info.min_block_size != info.max_block_size or not info.max_block_size:
+            self.found.time = time.value
+
+    def knows_time(self) -> bool:
+        """Whether the clock tells where any block begins, or each header says it."""
+        if self._next.last.is_variable:
+            return True
+        return not library.claxon_clock_needs_frames(self.clock())
+
+    def seek(self, seeker: _calls.Seeker) -> int:
+        """Seeks by the bytes that are held. The frame that is found is the next one. Returns a
+        status.
+        """
+        window = self.window
+
+        def call() -> int:
+            status: int = library.claxon_seeker_next_planar(
+                seeker,
+                window.address + window.at.value,
+                window.end - window.at.value,
+                window.position(),
+                window.has_ended,
+                self.info,
+                self._address,
+                self._capacity,
+                self.found,
+            )
+            return status
+
+        status = self._fitting(call)
+        if status == OK:
+            found = seeker.found
+            window.pass_to(found.position)
+            self.is_planar, self._ahead = True, found.end - found.position
+            self._next.last = found
+            self._note(found)
+        return status
 
     def _call(self) -> int:
         window, at = self.window, self.window.at.value
@@ -166,7 +211,7 @@ class Frames:
         window = self.window
         if self._lost_at is None:
             self._lost_at = window.position()
-            library.claxon_search_go_on(self._search, self._lost_at + was_tried)
+            library.claxon_search_go_on(self._search, self._next, self._lost_at + was_tried)
         self._ahead = None
         position = ctypes.c_uint64()
         status = self._find(position)
@@ -203,7 +248,7 @@ class Frames:
                 self.found,
             )
             if status == NO_MORE and is_end != window.has_ended:
-                library.claxon_search_go_on(search, place + 1)
+                library.claxon_search_go_on(search, self._next, place + 1)
                 is_end = window.has_ended
             elif status == NEED_MORE and self._is_full():
                 is_end = True

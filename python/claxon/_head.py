@@ -57,7 +57,6 @@ class Head:
                 self._take_part()
             elif status == NO_MORE:
                 self._is_over = True
-                self.info.first_frame = 0  # the frames are shown without the head
             elif status != NEED_MORE:
                 raise self._fault(status, state.begin)
             elif not window.fill(self._missing()) and not window.has_ended:

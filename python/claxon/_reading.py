@@ -75,7 +75,7 @@ class Reading:
     def _add_block(self, stop: Optional[int]) -> None:
         """Adds what is wanted of the block that was decoded."""
         found = self._frames.found
-        time = self._frames.time()
+        time = int(found.time)
         end = time + int(found.duration)
         if self.is_before and end <= self.at:
             return
@@ -166,7 +166,7 @@ def read_on(flac: "Flac", frames: int, wanted: Wanted) -> Any:
     if start is None:  # after `resync` the next block says it
         start = total or 0
         if flac._frames.next(is_planar=not wanted.has_numpy):
-            start = flac._frames.time()
+            start = int(flac._frames.found.time)
             flac._frames.put_back()
     stop = None if frames < 0 else start + frames
     if total is not None and stop is not None:

@@ -101,8 +101,8 @@ class Stream(Locked):
         self._expect_open()
         if not self._has_frames() or not self._frames.next():
             return None
-        time, block = self._frames.time(), self._frames.take(blocks.dtype)
-        self._time, self._is_within = time + block.duration, False
+        block = self._frames.take(blocks.dtype)
+        self._time, self._is_within = block.time + block.duration, False
         start, blocks.start, blocks.is_over = blocks.start, 0, False
         has_start = block.time < start < block.time + block.duration
         return block.since(start) if has_start else block

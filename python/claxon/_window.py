@@ -36,10 +36,6 @@ class Window:
         """The number of bytes that the next frame may have."""
         return min(self.end - self.at.value, MAX_FRAME_BYTES)
 
-    def byte(self, position: int) -> int:
-        """The byte at this position in the file, of a frame that was decoded last."""
-        return self._bytes[position - self.start]
-
     def bytes_from(self, position: int, count: int) -> bytes:
         """Some of the bytes that are held: so many from this position on, or fewer."""
         start = position - self.start

@@ -161,7 +161,7 @@ class Objects(unittest.TestCase):
         """They have the layout that the header asserts."""
         header = (TOP / "c" / "claxon.h").read_text()
         sizes = re.findall(r"sizeof\(struct claxon_(\w+)\) == (\d+)", header)
-        self.assertEqual(len(sizes), 8)
+        self.assertEqual(len(sizes), 11)
         for name, size in sizes:
             self.assertEqual(ctypes.sizeof(getattr(_calls, name.title())), int(size), name)
         fields = re.findall(r"offsetof\(struct claxon_(\w+), (\w+)\) == (\d+)", header)

@@ -351,20 +351,20 @@ class Damage(SeekCase):
     def test_memory_that_is_refused(self) -> None:
         stream = made(20, 300)
         flac = claxon.Flac(io.BytesIO(stream.content()))
-        call = _calls.library.claxon_frames_next_planar
+        call = _calls.library.claxon_seeker_next_planar
         found = [0]
 
         def refused(*arguments: object) -> int:
             found[0] += 1
             return _calls.OUT_OF_MEMORY if found[0] == 3 else int(call(*arguments))
 
-        with unittest.mock.patch.object(_calls.library, "claxon_frames_next_planar", refused):
+        with unittest.mock.patch.object(_calls.library, "claxon_seeker_next_planar", refused):
             with self.assertRaises(claxon.OutOfMemory):
                 for sample in range(0, 6000, 300):
                     flac.seek(sample)
         self.expect_samples(flac, 3210, stream)
         with unittest.mock.patch.object(
-            _calls.library, "claxon_seek", return_value=_calls.OUT_OF_MEMORY
+            _calls.library, "claxon_seeker_next_planar", return_value=_calls.OUT_OF_MEMORY
         ):
             self.assertRaises(claxon.OutOfMemory, flac.seek, 6000)
         self.assertEqual(next(flac.blocks()).time, 3300)

@@ -2,8 +2,9 @@
 //!
 //! usage: events < STREAMS
 //!
-//! Each stream on standard input is: the number of pieces, the lengths of these, the number of bytes, and the bytes. Numbers
-//! are of 32 bits, little-endian. What is said of it is lines of text, and after a line `block` the samples of the block.
+//! Each stream on standard input is: the number of pieces, the lengths of these, the number of samples to seek, the samples, the
+//! number of bytes, and the bytes. Numbers are of 32 bits, little-endian. What is said of it is lines of text, and after a line
+//! `block` the samples of the block.
 use claxon::{Block, Decoder, Error, Event, FlacReader, Held, Result};
 use std::io::{self, Read, Write};
 
@@ -90,7 +91,58 @@ fn write_decoded(output: &mut impl Write, bytes: &[u8], pieces: &[usize], has_he
     }
 }
 
-fn write_events(output: &mut impl Write, bytes: &[u8], pieces: &[usize]) -> Result<()> {
+/// What a reader finds at these samples, and the block that has each.
+fn write_sought(output: &mut impl Write, bytes: &[u8], samples: &[usize]) -> Result<()> {
+    let mut flac = FlacReader::new(io::Cursor::new(bytes))?;
+    for sample in samples {
+        match flac.seek(*sample as u64)? {
+            Some(before) => {
+                writeln!(output, "sought {before}")?;
+                if let Some(block) = flac.blocks().read_next_or_eof(Vec::new())? {
+                    write_block(output, block)?;
+                }
+            }
+            None => writeln!(output, "sought none")?,
+        }
+    }
+    Ok(())
+}
+
+/// What a decoder finds, by pieces.
+fn write_found(output: &mut impl Write, bytes: &[u8], pieces: &[usize], samples: &[usize]) -> Result<()> {
+    let (mut decoder, mut buffer, mut ends) = (Decoder::new(), Vec::new(), pieces.iter().cycle());
+    for sample in samples {
+        decoder.begin_seek(*sample as u64, Some(bytes.len() as u64));
+        let (mut start, mut end) = (0, 0);
+        loop {
+            let held = Held {
+                bytes: bytes.get(start..end).unwrap_or(&[]),
+                position: start as u64,
+                is_end: end >= bytes.len(),
+            };
+            match decoder.seek(held, &mut buffer)? {
+                Event::NeedMore(_) => {
+                    let position = decoder.position() as usize;
+                    let from = if (start..=end).contains(&position) { end } else { position };
+                    (start, end) = (position, from.max(bytes.len().min(from + ends.next().copied().unwrap_or(1))));
+                }
+                Event::Block(block) => {
+                    writeln!(output, "sought {}", *sample as u64 - block.time())?;
+                    write_block(output, block)?;
+                    break;
+                }
+                Event::End => {
+                    writeln!(output, "sought none")?;
+                    break;
+                }
+                _ => {}
+            }
+        }
+    }
+    Ok(())
+}
+
+fn write_events(output: &mut impl Write, bytes: &[u8], pieces: &[usize], samples: &[usize]) -> Result<()> {
     let opened = FlacReader::new(Pieces { bytes, lengths: pieces.iter() });
     let has_head = opened.is_ok();
     match opened {
@@ -99,7 +151,14 @@ fn write_events(output: &mut impl Write, bytes: &[u8], pieces: &[usize]) -> Resu
     }
     writeln!(output, "end")?;
     write_decoded(output, bytes, pieces, has_head)?;
-    Ok(writeln!(output, "end")?)
+    writeln!(output, "end")?;
+    if has_head {
+        write_sought(output, bytes, samples)?;
+        writeln!(output, "end")?;
+        write_found(output, bytes, pieces, samples)?;
+        writeln!(output, "end")?;
+    }
+    Ok(())
 }
 
 fn read_number(input: &mut impl Read) -> io::Result<usize> {
@@ -112,9 +171,11 @@ fn main() -> Result<()> {
     let (mut input, mut output) = (io::stdin().lock(), io::BufWriter::new(io::stdout().lock()));
     while let Ok(count) = read_number(&mut input) {
         let pieces = (0..count).map(|_| read_number(&mut input)).collect::<io::Result<Vec<usize>>>()?;
+        let count = read_number(&mut input)?;
+        let samples = (0..count).map(|_| read_number(&mut input)).collect::<io::Result<Vec<usize>>>()?;
         let mut bytes = vec![0; read_number(&mut input)?];
         input.read_exact(&mut bytes)?;
-        write_events(&mut output, &bytes, &pieces)?;
+        write_events(&mut output, &bytes, &pieces, &samples)?;
         output.flush()?;
     }
     Ok(())

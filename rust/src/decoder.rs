@@ -1,6 +1,8 @@
 //! A decoder without input of its own.
 use crate::error::{format_error, Error, Result};
-use crate::ffi::{self, Failure, Frames, Info, NextFound, NextFrame, Search, MAX_FRAME_BYTES};
+use crate::ffi::{
+    self, Clock, Failure, Frames, Info, NextFound, NextFrame, NextSought, Search, Seeker, MAX_FRAME_BYTES,
+};
 use crate::frame::Block;
 use crate::head::{Head, Part};
 use crate::metadata::{StreamInfo, VorbisComment};
@@ -90,10 +92,24 @@ pub struct Decoder {
     head: Option<Head>,
     frames: Frames,
     search: Search,
+    clock: Clock,
+    seek: Option<Seek>,
     info: Info,
+    first_frame: u64,
     lost: Lost,
     // The number of samples of the last block, of all channels.
     usual: usize,
+}
+
+// A seek to a sample, in a stream of so many bytes. It is begun once so many of the first frames were noted.
+#[derive(Clone, Copy, Debug)]
+struct Seek {
+    sample: u64,
+    length: u64,
+    first_frames: u32,
+    seeker: Option<Seeker>,
+    // Where the decoder stood before, if that was after the head.
+    from: Option<u64>,
 }
 
 // What was told last.
@@ -130,15 +146,27 @@ impl Decoder {
     }
 
     fn of(info: Info, position: u64) -> Decoder {
-        let (frames, search) = (Frames::start(position), Search::start(position));
-        Decoder { head: None, frames, search, info, lost: Lost::Nothing, usual: 0 }
+        Decoder {
+            head: None,
+            frames: Frames::start(position),
+            search: Search::start(position),
+            clock: Clock::start(&info),
+            seek: None,
+            info,
+            first_frame: position,
+            lost: Lost::Nothing,
+            usual: 0,
+        }
     }
 
-    /// The position of the first byte that is needed. Those before may be dropped. It may stand after those that are held:
-    /// a picture is passed.
+    /// The position of the first byte that is needed. Those before may be dropped. It may stand after those that are held,
+    /// as a picture is passed, and before or after them in a seek.
     ///
     /// After an error that is the first byte of the faulty frame, from which [`Decoder::resync`] goes on.
     pub fn position(&self) -> u64 {
+        if let Some(Seek { seeker: Some(seeker), .. }) = self.seek {
+            return seeker.position;
+        }
         match (self.head, self.lost) {
             (Some(head), _) => head.position(),
             (None, Lost::Refused(begin)) => begin,
@@ -150,7 +178,7 @@ impl Decoder {
     /// are in the buffer's memory, which is taken if it suffices.
     ///
     /// A block is given as soon as its frame is held: `NeedMore` says that no whole frame is there, or that very many
-    /// tries were in vain, to which no stream of an encoder leads.
+    /// tries were in vain, as in a stream that was made to cost time.
     ///
     /// # Errors
     ///
@@ -158,26 +186,36 @@ impl Decoder {
     /// [`FrameReader::read_next_or_eof`](crate::frame::FrameReader::read_next_or_eof), after which the next call
     /// continues after the bytes that had to be read to see the fault.
     pub fn decode(&mut self, held: Held<'_>, buffer: &mut Vec<i32>) -> Result<Event> {
+        self.seek = None;
+        match self.next_of_head(held)? {
+            Some(event) => Ok(event),
+            None => self.next_block(held, buffer),
+        }
+    }
+
+    // `None` after the head.
+    fn next_of_head(&mut self, held: Held<'_>) -> Result<Option<Event>> {
         while let Some(mut head) = self.head {
             let part = head.next(held)?;
             self.head = Some(head);
             match part {
                 Part::StreamInfo(streaminfo) => {
-                    self.info = streaminfo.info();
-                    return Ok(Event::StreamInfo(streaminfo));
+                    *self = self.of_stream(streaminfo.info());
+                    return Ok(Some(Event::StreamInfo(streaminfo)));
                 }
-                Part::VorbisComment(comment) => return Ok(Event::VorbisComment(comment)),
-                Part::NeedMore(count) => return Ok(Event::NeedMore(count)),
+                Part::VorbisComment(comment) => return Ok(Some(Event::VorbisComment(comment))),
+                Part::NeedMore(count) => return Ok(Some(Event::NeedMore(count))),
                 Part::Whole => self.leave_head(),
                 Part::Other => {}
             }
         }
-        self.next_block(held, buffer)
+        Ok(None)
     }
 
     // Goes on with frames.
     fn leave_head(&mut self) {
         if let Some(head) = self.head.take() {
+            self.first_frame = head.position();
             self.frames.go_on(head.position());
         }
     }
@@ -192,16 +230,23 @@ impl Decoder {
         }
         loop {
             match self.frames.next(held, &self.info, buffer) {
-                NextFrame::Found(block) => {
-                    self.usual = block.samples();
-                    return Ok(Event::Block(Block::new(block, mem::take(buffer))));
-                }
+                NextFrame::Found(block) => return Ok(self.shown(block, buffer)),
                 NextFrame::BufferTooSmall(block) => buffer.resize(block.samples(), 0),
                 NextFrame::NeedMore => return Ok(Event::NeedMore(self.frames.needed)),
                 NextFrame::End => return Ok(Event::End),
                 NextFrame::Failed(failure) => return self.refuse(failure, begin, is_full),
             }
         }
+    }
+
+    // The block of the last frame. Where the streaminfo hasn't one block size the clock tells its time better than the header.
+    fn shown(&mut self, mut block: ffi::Block, buffer: &mut Vec<i32>) -> Event {
+        let time = self.clock.pass(&self.frames.last, block.time);
+        if self.info.min_block_size != self.info.max_block_size || self.info.max_block_size == 0 {
+            block.time = time;
+        }
+        self.usual = block.samples();
+        Event::Block(Block::new(block, mem::take(buffer)))
     }
 
     fn refuse(&mut self, failure: Failure, begin: u64, is_full: bool) -> Result<Event> {
@@ -214,6 +259,82 @@ impl Decoder {
         Err(failure.into())
     }
 
+    /// Begins a seek to this sample of each channel, of which the first is 0, in a stream of so many bytes, if that is known.
+    /// [`Decoder::seek`] goes there.
+    pub fn begin_seek(&mut self, sample: u64, length: Option<u64>) {
+        let from = self.head.is_none().then_some(self.frames.position);
+        self.seek = Some(Seek { sample, length: length.unwrap_or(u64::MAX), first_frames: 2, seeker: None, from });
+        self.go_on(self.first_frame);
+    }
+
+    /// Goes to a frame whose block has the sample: to be called until it gives that block, or `End` where no block has it.
+    /// Then the decoder goes on after the block, or where it stood before. `NeedMore` asks for bytes from
+    /// [`Decoder::position`] on. Where the head isn't over, it is read first, as [`Decoder::decode`] does.
+    ///
+    /// Headers lead to the frame. Neither they nor the length are believed, and a seek table isn't looked at. `End` is given
+    /// too where very many headers with the sample have led to no frame, as only in a stream that is made for it.
+    ///
+    /// # Errors
+    ///
+    /// Those of the head, and an `IoError` where memory is refused. The call may be repeated.
+    pub fn seek(&mut self, held: Held<'_>, buffer: &mut Vec<i32>) -> Result<Event> {
+        if let Some(event) = self.next_of_head(held)? {
+            return Ok(event);
+        }
+        while let Some(mut seek) = self.seek.filter(|seek| seek.seeker.is_none()) {
+            if seek.first_frames == 0 || !self.clock.needs_frames() || self.frames.last.is_variable == 1 {
+                let info = Info { first_frame: self.first_frame as usize, ..self.info };
+                seek.seeker = Some(Seeker::start(&info, seek.length, seek.sample, &self.clock));
+            } else {
+                match self.next_block(held, buffer) {
+                    Ok(Event::NeedMore(count)) => return Ok(Event::NeedMore(count)),
+                    Ok(Event::Block(block)) => *buffer = block.into_buffer(),
+                    _ => seek.first_frames = 1,
+                }
+                seek.first_frames -= 1;
+            }
+            self.seek = Some(seek);
+        }
+        self.next_sought(held, buffer)
+    }
+
+    fn next_sought(&mut self, held: Held<'_>, buffer: &mut Vec<i32>) -> Result<Event> {
+        let (mut seeker, from) = match self.seek {
+            Some(Seek { seeker: Some(seeker), from, .. }) => (seeker, from),
+            _ => return Ok(Event::End),
+        };
+        if buffer.is_empty() {
+            buffer.resize(self.usual.max(1), 0);
+        }
+        loop {
+            match seeker.next(held, &self.info, buffer) {
+                NextSought::Found(block) => {
+                    self.seek = None;
+                    self.go_on(seeker.found.end);
+                    self.frames.last = seeker.found;
+                    return Ok(self.shown(block, buffer));
+                }
+                NextSought::BufferTooSmall(block) => buffer.resize(block.samples(), 0),
+                // No more is held than of a frame.
+                NextSought::NeedMore if seeker.needed <= MAX_FRAME_BYTES => {
+                    self.seek = self.seek.map(|seek| Seek { seeker: Some(seeker), ..seek });
+                    return Ok(Event::NeedMore(seeker.needed));
+                }
+                NextSought::NeedMore | NextSought::Nothing => {
+                    self.seek = None;
+                    self.go_on(from.unwrap_or(self.first_frame));
+                    return Ok(Event::End);
+                }
+                NextSought::Failed(failure) => return Err(failure.into()),
+            }
+        }
+    }
+
+    /// The position of the frame whose block was given last, and the one after it.
+    pub(crate) fn last_frame(&self) -> (u64, u64) {
+        (self.frames.last.position, self.frames.last.end)
+    }
+
     /// Goes to the next frame of the stream, as [`FrameReader::resync`](crate::frame::FrameReader::resync) does, also
     /// after a fault of the head: to be called until it gives `Resynced`, or `End` where no frame is left.
     ///
@@ -221,6 +342,7 @@ impl Decoder {
     ///
     /// An `IoError` where memory is refused. The call may be repeated.
     pub fn resync(&mut self, held: Held<'_>) -> Result<Event> {
+        self.seek = None;
         self.leave_head();
         let begin = self.begin_search();
         let found = self.find(held);
@@ -247,7 +369,7 @@ impl Decoder {
             Lost::Refused(begin) => (begin, begin + 1),
             Lost::Nothing => (self.frames.position, self.frames.position),
         };
-        self.search.go_on(from);
+        self.search.go_on(&mut self.frames, from);
         self.lost = Lost::Skipping(begin);
         begin
     }
@@ -260,7 +382,7 @@ impl Decoder {
             match self.search.next(shown, &self.info) {
                 NextFound::NeedMore if held.count_from(self.search.position) >= MAX_FRAME_BYTES => shown.is_end = true,
                 NextFound::Nothing if shown.is_end != held.is_end => {
-                    self.search.go_on(from + 1);
+                    self.search.go_on(&mut self.frames, from + 1);
                     shown = held;
                 }
                 found => return found,
@@ -268,18 +390,29 @@ impl Decoder {
         }
     }
 
+    // From another position on.
+    fn go_on(&mut self, position: u64) {
+        self.frames.go_on(position);
+        self.lost = Lost::Nothing;
+    }
+
     /// The same at this position: where it is another one, nothing is known of the frame there.
     pub(crate) fn at(mut self, position: u64) -> Decoder {
         if position != self.frames.position {
-            self.frames.go_on(position);
-            self.lost = Lost::Nothing;
+            self.go_on(position);
         }
         self
     }
 
     /// The same for a stream of which this is known.
     pub(crate) fn of_stream(self, info: Info) -> Decoder {
-        Decoder { info, ..self }
+        let clock = if info == self.info { self.clock } else { Clock::start(&info) };
+        Decoder { info, clock, ..self }
+    }
+
+    /// The same for a stream whose first frame is at this position.
+    pub(crate) fn with_first_frame(self, first_frame: u64) -> Decoder {
+        Decoder { first_frame, ..self }
     }
 
     /// Where the next frame begins, or what comes after a fault.

@@ -29,7 +29,7 @@ pub const MAX_FRAME_BYTES: usize = 16_777_215;
 
 /// `struct claxon_info`. All zeros mean that nothing is known of the stream.
 #[repr(C)]
-#[derive(Clone, Copy, Debug, Default)]
+#[derive(Clone, Copy, Debug, Default, PartialEq, Eq)]
 pub struct Info {
     pub first_frame: usize,
     pub tags: usize,
@@ -102,6 +102,17 @@ pub struct Head {
     part: u32,
 }
 
+/// `struct claxon_frame`.
+#[repr(C)]
+#[derive(Clone, Copy, Debug, Default)]
+pub struct Frame {
+    pub position: u64,
+    pub end: u64,
+    number: u64,
+    duration: u32,
+    pub is_variable: u32,
+}
+
 /// `struct claxon_frames`.
 #[repr(C)]
 #[derive(Clone, Copy, Debug, Default)]
@@ -113,7 +124,9 @@ pub struct Frames {
     is_near: u8,
     wasted: u64,
     counted: u64,
+    faults: u64,
     pub needed: usize,
+    pub last: Frame,
 }
 
 /// `struct claxon_search`.
@@ -127,10 +140,28 @@ pub struct Search {
     is_near: u8,
     wasted_by_tries: u64,
     counted_by_tries: u64,
+    faults: u64,
     wasted: u64,
     counted: u64,
     has_passed_over: u8,
     pub needed: usize,
+}
+
+/// `struct claxon_clock`.
+#[repr(C)]
+#[derive(Clone, Copy, Debug, Default)]
+pub struct Clock {
+    state: [u64; 5],
+}
+
+/// `struct claxon_seeker`.
+#[repr(C)]
+#[derive(Clone, Copy, Debug)]
+pub struct Seeker {
+    state: [u64; 33],
+    pub position: u64,
+    pub needed: usize,
+    pub found: Frame,
 }
 
 /// `struct claxon_md5`.
@@ -145,7 +176,8 @@ pub struct Md5 {
 // The sizes that `claxon.h` asserts.
 const _: () = assert!(size_of::<Info>() == 64 && size_of::<Tag>() == 32 && size_of::<Block>() == 24);
 const _: () = assert!(size_of::<Metadata>() == 16 && size_of::<Head>() == 56);
-const _: () = assert!(size_of::<Md5>() == 88 && size_of::<Frames>() == 56 && size_of::<Search>() == 80);
+const _: () = assert!(size_of::<Md5>() == 88 && size_of::<Frames>() == 96 && size_of::<Search>() == 88);
+const _: () = assert!(size_of::<Frame>() == 32 && size_of::<Clock>() == 40 && size_of::<Seeker>() == 312);
 
 /// A text that the library writes. Its longest one has 92 bytes.
 pub type Text = [u8; 112];
@@ -173,6 +205,7 @@ extern "C" {
         error: *mut u8,
         error_size: usize,
     ) -> u32;
+    #[cfg(test)]
     fn claxon_next_block_planar(
         bytes: *const u8,
         length: usize,
@@ -183,14 +216,6 @@ extern "C" {
         block: *mut Block,
         error: *mut u8,
         error_size: usize,
-    ) -> u32;
-    fn claxon_find_frame(
-        bytes: *const u8,
-        length: usize,
-        at: *mut usize,
-        info: *const Info,
-        budget: *mut u64,
-        block: *mut Block,
     ) -> u32;
     fn claxon_head_start(head: *mut Head, position: u64);
     fn claxon_head_next(
@@ -220,7 +245,7 @@ extern "C" {
         error_size: usize,
     ) -> u32;
     fn claxon_search_start(search: *mut Search, position: u64);
-    fn claxon_search_go_on(search: *mut Search, position: u64);
+    fn claxon_search_go_on(search: *mut Search, frames: *mut Frames, position: u64);
     fn claxon_search_next(
         search: *mut Search,
         bytes: *const u8,
@@ -229,6 +254,22 @@ extern "C" {
         is_end: u32,
         info: *const Info,
         found: *mut u64,
+        block: *mut Block,
+    ) -> u32;
+    fn claxon_clock_start(clock: *mut Clock, info: *const Info);
+    fn claxon_clock_time(clock: *const Clock, frame: *const Frame, time: *mut u64) -> u32;
+    fn claxon_clock_note(clock: *mut Clock, frame: *const Frame);
+    fn claxon_clock_needs_frames(clock: *const Clock) -> u32;
+    fn claxon_seeker_start(seeker: *mut Seeker, info: *const Info, length: u64, sample: u64, clock: *const Clock);
+    fn claxon_seeker_next_planar(
+        seeker: *mut Seeker,
+        bytes: *const u8,
+        length: usize,
+        at: u64,
+        is_end: u32,
+        info: *const Info,
+        samples: *mut i32,
+        capacity: usize,
         block: *mut Block,
     ) -> u32;
     fn claxon_md5_start(md5: *mut Md5);
@@ -315,6 +356,7 @@ pub fn next_tag(content: &[u8], at: &mut usize) -> Result<(Range<usize>, Range<u
 }
 
 /// What stands where a frame may begin.
+#[cfg(test)]
 pub enum NextBlock {
     /// A frame of `length` bytes, whose samples were written, one channel after another.
     Found {
@@ -322,11 +364,12 @@ pub enum NextBlock {
         length: usize,
     },
     /// The header of a frame whose samples don't fit.
-    BufferTooSmall(Block),
+    BufferTooSmall,
     Failed(Failure),
 }
 
 /// Decodes the frame that the bytes begin with.
+#[cfg(test)]
 pub fn next_block(bytes: &[u8], info: &Info, samples: &mut [i32]) -> NextBlock {
     if let Err(failure) = check_library() {
         return NextBlock::Failed(failure);
@@ -348,42 +391,8 @@ pub fn next_block(bytes: &[u8], info: &Info, samples: &mut [i32]) -> NextBlock {
     };
     match status {
         OK => NextBlock::Found { block, length },
-        BUFFER_TOO_SMALL => NextBlock::BufferTooSmall(block),
+        BUFFER_TOO_SMALL => NextBlock::BufferTooSmall,
         _ => NextBlock::Failed(Failure { status, text }),
-    }
-}
-
-/// What the frame's header says of its block with which the bytes begin.
-pub fn header_of(bytes: &[u8], info: &Info) -> Option<Block> {
-    match next_block(bytes, info, &mut []) {
-        NextBlock::BufferTooSmall(block) => Some(block),
-        NextBlock::Found { .. } | NextBlock::Failed(_) => None,
-    }
-}
-
-/// What a search for a frame of the stream finds in bytes.
-pub enum HeaderSearch {
-    Frame(usize),
-    /// The header of a block of more samples than the budget has left. No frame begins before it.
-    Header(usize),
-    /// Neither. More bytes can make a frame from this position on.
-    Nothing(usize),
-    Failed(Failure),
-}
-
-/// Searches for the first frame. The blocks whose headers are found on the way have no more samples than the budget.
-pub fn find_frame(bytes: &[u8], info: &Info, mut budget: u64) -> HeaderSearch {
-    if let Err(failure) = check_library() {
-        return HeaderSearch::Failed(failure);
-    }
-    let (mut at, mut block) = (0, Block::default());
-    // SAFETY: as the module says.
-    let status = unsafe { claxon_find_frame(bytes.as_ptr(), bytes.len(), &mut at, info, &mut budget, &mut block) };
-    match status {
-        OK => HeaderSearch::Frame(at),
-        OVER_BUDGET => HeaderSearch::Header(at),
-        NO_MORE => HeaderSearch::Nothing(at),
-        _ => HeaderSearch::Failed(Failure { status, text: NO_TEXT }),
     }
 }
 
@@ -520,10 +529,10 @@ impl Search {
         search
     }
 
-    /// From another position on.
-    pub fn go_on(&mut self, position: u64) {
+    /// From another position on. What the faults of these frames cost is charged.
+    pub fn go_on(&mut self, frames: &mut Frames, position: u64) {
         // SAFETY: as the module says.
-        unsafe { claxon_search_go_on(self, position) }
+        unsafe { claxon_search_go_on(self, frames, position) }
     }
 
     /// Finds the next frame.
@@ -550,6 +559,88 @@ impl Search {
             NEED_MORE => NextFound::NeedMore,
             NO_MORE => NextFound::Nothing,
             _ => NextFound::Failed(Failure { status, text: NO_TEXT }),
+        }
+    }
+}
+
+impl Clock {
+    /// As `Head::start`.
+    pub fn start(info: &Info) -> Clock {
+        let mut clock = Clock::default();
+        if check_library().is_ok() {
+            // SAFETY: as the module says.
+            unsafe { claxon_clock_start(&mut clock, info) }
+        }
+        clock
+    }
+
+    /// Notes a frame that was decoded, and returns the sample at which its block begins, or this one where the clock
+    /// doesn't know it.
+    pub fn pass(&mut self, frame: &Frame, otherwise: u64) -> u64 {
+        let mut time = otherwise;
+        // SAFETY: as the module says.
+        unsafe {
+            claxon_clock_time(self, frame, &mut time);
+            claxon_clock_note(self, frame);
+        }
+        time
+    }
+
+    /// Whether the first two frames have to be noted before a seek.
+    pub fn needs_frames(&self) -> bool {
+        // SAFETY: as the module says.
+        unsafe { claxon_clock_needs_frames(self) == 1 }
+    }
+}
+
+/// What is said of a seek, by the bytes that are held.
+pub enum NextSought {
+    Found(Block),
+    /// The samples of this block don't fit.
+    BufferTooSmall(Block),
+    NeedMore,
+    /// There is no such frame, or none within the budget.
+    Nothing,
+    Failed(Failure),
+}
+
+impl Seeker {
+    /// A seek to a sample, from the first frame on at `info.first_frame`. As `Head::start`.
+    pub fn start(info: &Info, length: u64, sample: u64, clock: &Clock) -> Seeker {
+        let mut seeker = Seeker { state: [0; 33], position: 0, needed: 0, found: Frame::default() };
+        if check_library().is_ok() {
+            // SAFETY: as the module says.
+            unsafe { claxon_seeker_start(&mut seeker, info, length, sample, clock) }
+        }
+        seeker
+    }
+
+    /// Seeks. The samples are written one channel after another.
+    pub fn next(&mut self, held: Held<'_>, info: &Info, samples: &mut [i32]) -> NextSought {
+        if let Err(failure) = check_library() {
+            return NextSought::Failed(failure);
+        }
+        let mut block = Block::default();
+        // SAFETY: as the module says.
+        let status = unsafe {
+            claxon_seeker_next_planar(
+                self,
+                held.bytes.as_ptr(),
+                held.bytes.len(),
+                held.position,
+                u32::from(held.is_end),
+                info,
+                samples.as_mut_ptr(),
+                samples.len(),
+                &mut block,
+            )
+        };
+        match status {
+            OK => NextSought::Found(block),
+            BUFFER_TOO_SMALL => NextSought::BufferTooSmall(block),
+            NEED_MORE => NextSought::NeedMore,
+            NO_MORE | OVER_BUDGET => NextSought::Nothing,
+            _ => NextSought::Failed(Failure { status, text: NO_TEXT }),
         }
     }
 }

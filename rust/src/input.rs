@@ -1,9 +1,12 @@
 //! Readers of bytes.
 use crate::decoder::Decoder;
 use crate::error::end_of_input;
-use crate::seek::Decoded;
+use crate::frame::Block;
 use crate::source::{Source, FRAME_CAPACITY, METADATA_CAPACITY};
 use std::io::{self, SeekFrom};
+
+// How many bytes are read at once in a seek: most frames have fewer.
+const SEEK_STEP: usize = 1 << 14;
 
 /// A reader with a buffer, for any `io::Read`.
 ///
@@ -22,8 +25,8 @@ pub struct BufferedReader<R: io::Read> {
     // Whether it stands elsewhere than at `next`.
     is_moved: bool,
     decoder: Decoder,
-    // The frame that the buffered bytes begin with, where it was decoded already.
-    decoded: Option<Decoded>,
+    // The block of the frame that the buffered bytes begin with, where it was decoded already, and the frame's length.
+    decoded: Option<(Block, usize)>,
 }
 
 // As a read has no bound that the reader can seek.
@@ -81,10 +84,15 @@ impl<R: io::Read> BufferedReader<R> {
         Ok(count)
     }
 
-    /// Reads once, as many bytes at most, into a buffer for frames.
-    pub(crate) fn fill_some(&mut self, most: usize) -> io::Result<usize> {
+    /// Goes to this position, and reads once where fewer bytes are buffered from there on. False at the end of input.
+    pub(crate) fn hold(&mut self, position: u64, count: usize) -> io::Result<bool> {
+        self.go_to(position);
+        let more = count.saturating_sub(self.buffered().len());
+        if more == 0 {
+            return Ok(true);
+        }
         self.make_space(FRAME_CAPACITY);
-        self.read(most)
+        Ok(self.read(more.max(SEEK_STEP))? > 0)
     }
 
     /// Goes to this position: one that was read and is buffered, or any one after `length` was called. The wrapped
@@ -101,9 +109,9 @@ impl<R: io::Read> BufferedReader<R> {
         self.decoded = None;
     }
 
-    /// Keeps the frame that the buffered bytes begin with, until bytes are consumed.
-    pub(crate) fn keep(&mut self, decoded: Decoded) {
-        self.decoded = Some(decoded);
+    /// Keeps the block of the frame that the buffered bytes begin with, until bytes are consumed.
+    pub(crate) fn keep(&mut self, block: Block, length: usize) {
+        self.decoded = Some((block, length));
     }
 }
 
@@ -152,7 +160,7 @@ impl<R: io::Read> Source for BufferedReader<R> {
         self.decoder = decoder;
     }
 
-    fn take_decoded(&mut self) -> Option<Decoded> {
+    fn take_decoded(&mut self) -> Option<(Block, usize)> {
         self.decoded.take()
     }
 }
@@ -270,7 +278,7 @@ impl<R: ReadBytes> Source for &mut R {
         (**self).note(decoder)
     }
 
-    fn take_decoded(&mut self) -> Option<Decoded> {
+    fn take_decoded(&mut self) -> Option<(Block, usize)> {
         (**self).take_decoded()
     }
 }
@@ -316,10 +324,6 @@ impl<T: AsRef<[u8]>> Source for io::Cursor<T> {
     }
 
     fn note(&mut self, _: Decoder) {}
-
-    fn take_decoded(&mut self) -> Option<Decoded> {
-        None
-    }
 }
 
 impl<T: AsRef<[u8]>> ReadBytes for io::Cursor<T> {

@@ -1,6 +1,6 @@
 //! What frames are decoded from.
 use crate::decoder::{Decoder, Held};
-use crate::seek::Decoded;
+use crate::frame::Block;
 use std::io;
 
 /// The capacity of a buffer for metadata: tags mostly fit, and where they alone are read little else is.
@@ -33,8 +33,11 @@ pub trait Source {
     /// Notes it for the next reader of frames. Of bytes in memory nothing is noted.
     fn note(&mut self, decoder: Decoder);
 
-    /// The frame that the buffered bytes begin with, where it was decoded already. Bytes in memory are decoded again.
-    fn take_decoded(&mut self) -> Option<Decoded>;
+    /// The block of the frame that the buffered bytes begin with, where it was decoded already, and the length of the
+    /// frame.
+    fn take_decoded(&mut self) -> Option<(Block, usize)> {
+        None
+    }
 
     /// The buffered bytes, with which the stream ends or not.
     fn held(&self, is_end: bool) -> Held<'_> {

@@ -282,3 +282,49 @@ fn an_async_caller() {
     assert!(found == expected);
     assert!(thread.0.load(Ordering::Relaxed) > stream.len() / 100);
 }
+
+/// A seek asks for bytes anywhere, in pieces of any size, and gives the block that has the sample; after it the next one
+/// follows. The numbers of an old encoder are those of samples, which the first two frames show.
+#[test]
+fn seeks() {
+    let made = Made::new(40, 300, 1);
+    let mut old = made.stream();
+    let first = bytes(HEAD).len();
+    old[8..10].copy_from_slice(&299u16.to_be_bytes());
+    old.truncate(first);
+    (0..7).for_each(|number| old.extend(frame(number * 300, &made.blocks[number])));
+    for (stream, count) in [(made.stream(), 40), (old, 7)] {
+        for piece in [1, 100, stream.len()] {
+            let (mut decoder, mut buffer) = (Decoder::new(), Vec::new());
+            for sample in (0..count * 300).step_by(271) {
+                decoder.begin_seek(sample as u64, Some(stream.len() as u64));
+                let block = sought(&mut decoder, &stream, piece, &mut buffer).unwrap();
+                assert_eq!(Told::Block(block.time(), block.into_buffer()), block_of(&made, sample / 300));
+            }
+            for length in [None, Some(0), Some(stream.len() as u64)] {
+                decoder.begin_seek(count as u64 * 300, length);
+                assert!(sought(&mut decoder, &stream, piece, &mut buffer).is_none());
+            }
+        }
+    }
+}
+
+/// What a seek gives, by pieces that are handed in as it asks for them.
+fn sought(decoder: &mut Decoder, stream: &[u8], piece: usize, buffer: &mut Vec<i32>) -> Option<claxon::Block> {
+    let (mut start, mut end) = (0, 0);
+    loop {
+        let bytes = stream.get(start..end).unwrap_or(&[]);
+        let held = Held { bytes, position: start as u64, is_end: end >= stream.len() };
+        match decoder.seek(held, buffer).unwrap() {
+            Event::NeedMore(count) => {
+                let position = decoder.position() as usize;
+                assert!(count > 0 && (position < start || position + count > end));
+                let from = if (start..=end).contains(&position) { end } else { position };
+                (start, end) = (position, from.max(stream.len().min(from + piece)));
+            }
+            Event::Block(block) => return Some(block),
+            Event::End => return None,
+            _ => {}
+        }
+    }
+}

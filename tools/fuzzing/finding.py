@@ -31,13 +31,19 @@ UNLIMITED = (1 << 64) - 1
 UNTOUCHED: Fields = (0x123456789ABCDEF, 99, 98, 97, 96)
 UNTOUCHED_SAMPLE = 0x12345678
 
-# Those of claxon_seek, but for room for samples before the block.
-BLOCK_ARGUMENTS: List[Any] = [
-    *_calls.library.claxon_seek.argtypes[:-1],
-    ctypes.c_void_p,
-    ctypes.c_size_t,
-    ctypes.POINTER(_calls.Block),
-]
+_POSITION, _TO_SIZE = ctypes.c_uint64, ctypes.POINTER(ctypes.c_size_t)
+_BYTES: List[Any] = [ctypes.c_void_p, ctypes.c_size_t]
+_INFO, _BLOCK = ctypes.POINTER(_calls.Info), ctypes.POINTER(_calls.Block)
+# The calls for whole bytes, which the module for Python doesn't make.
+ARGUMENTS: Dict[str, List[Any]] = {
+    "next_block_planar": [*_BYTES, _TO_SIZE, _INFO, *_BYTES, _BLOCK, ctypes.c_char_p, _BYTES[1]],
+    "find_frame": [*_BYTES, _TO_SIZE, _INFO, ctypes.POINTER(_POSITION), _BLOCK],
+    "seek": [*_BYTES, _INFO, _POSITION, _POSITION, _TO_SIZE, _BLOCK],
+    "seek_block": [*_BYTES, _INFO, _POSITION, _POSITION, _TO_SIZE, *_BYTES, _BLOCK],
+}
+for _name, _arguments in ARGUMENTS.items():
+    _call = getattr(_calls.library, f"claxon_{_name}")
+    _call.argtypes, _call.restype = _arguments, ctypes.c_uint32
 
 
 @dataclasses.dataclass
@@ -215,9 +221,7 @@ class Searched:
         and samples, of which one more could be written."""
         at, block = ctypes.c_size_t(UNLIMITED - 1), _calls.Block(*UNTOUCHED)
         samples = (ctypes.c_int32 * (count + 1))(*(count + 1) * [UNTOUCHED_SAMPLE])
-        call = _calls.library.claxon_seek_block
-        call.argtypes, call.restype = BLOCK_ARGUMENTS, ctypes.c_uint32
-        status = call(
+        status = _calls.library.claxon_seek_block(
             self.data, len(self.data), self.info, sample, budget, at, samples, count, block
         )
         self.outcomes[f"claxon_seek_block: {ANSWERS.get(status, status)}"] += 1

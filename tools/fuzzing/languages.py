@@ -6,6 +6,7 @@ The crate is asked by its example `events`, and claxon_stream.h by stream_calls.
 import ctypes
 import functools
 import io
+import itertools
 import os
 import re
 import struct
@@ -15,7 +16,7 @@ import tempfile
 from array import array
 from pathlib import Path
 from random import Random
-from typing import Any, Callable, Iterable, Iterator, List, NamedTuple, Optional, Tuple
+from typing import Any, Callable, Dict, Iterable, Iterator, List, NamedTuple, Optional, Tuple
 
 from fuzzing import finding, mutation
 from fuzzing.mutation import Pick
@@ -136,12 +137,36 @@ class Held:
         self.end += self._cuts.pop(0) if self._cuts else 0
 
 
-def by_calls(data: bytes, pieces: Pieces, info: _calls.Info) -> Tuple[Events, bool]:
-    """What the calls for pieces say, and whether the search passed a header over."""
+class Times:
+    """The times of blocks, which are those of the clock where the streaminfo hasn't one size."""
+
+    def __init__(self, info: _calls.Info) -> None:
+        self._has_one_size = 0 < info.min_block_size == info.max_block_size
+        self.clock = _calls.Clock()
+        library.claxon_clock_start(self.clock, info)
+
+    def note(self, frame: _calls.Frame) -> Event:
+        """The event of a block that was decoded."""
+        time = ctypes.c_uint64(BUFFERS.block.time)
+        library.claxon_clock_time(self.clock, frame, time)
+        library.claxon_clock_note(self.clock, frame)
+        event = BUFFERS.event()
+        return event if self._has_one_size else (event[0], time.value, *event[2:])
+
+
+def by_calls(data: bytes, pieces: Pieces, info: _calls.Info) -> Tuple[Events, Events, bool]:
+    """What the calls for pieces say, the same with the times of the clock, and whether the search
+    passed a header over."""
     events: Events = []
     held, frames, search = Held(data, pieces), _calls.Frames(), _calls.Search()
+    times = Times(info)
+    shown: Dict[int, Event] = {}
     library.claxon_frames_start(frames, info.first_frame)
     library.claxon_search_start(search, info.first_frame)
+
+    def told() -> Events:
+        return [shown.get(at, event) for at, event in enumerate(events)]
+
     found = ctypes.c_uint64()
     while True:
         begin, bytes_held = frames.position, held.arguments(frames.position)
@@ -152,11 +177,12 @@ def by_calls(data: bytes, pieces: Pieces, info: _calls.Info) -> Tuple[Events, bo
             held.read()
         elif status == OK:
             events.append(BUFFERS.event())
+            shown[len(events) - 1] = times.note(frames.last)
         elif status == NO_MORE:
-            return events, bool(search.has_passed_over)
+            return events, told(), bool(search.has_passed_over)
         else:
             events.append(("fault", begin, *fault_of(status, BUFFERS.error.value)))
-            library.claxon_search_go_on(search, begin + 1)
+            library.claxon_search_go_on(search, frames, begin + 1)
             while status not in (OK, NO_MORE):
                 bytes_held = held.arguments(search.position)
                 status = library.claxon_search_next(
@@ -166,8 +192,62 @@ def by_calls(data: bytes, pieces: Pieces, info: _calls.Info) -> Tuple[Events, bo
                     held.read()
             events.append(("skipped", found.value - begin if status == OK else None))
             if status != OK:
-                return events, bool(search.has_passed_over)
+                return events, told(), bool(search.has_passed_over)
             library.claxon_frames_go_on(frames, found.value)
+
+
+class Seeks:
+    """The seeks in a stream by the calls for pieces, one after another."""
+
+    def __init__(self, data: bytes, pieces: Pieces, info: _calls.Info) -> None:
+        self._data, self._info = data, info
+        self._lengths = itertools.cycle(pieces or [1])
+        self._times = Times(info)
+        self._frames = _calls.Frames()
+
+    def _note_first(self) -> None:
+        """Notes the first two frames, where the clock needs them."""
+        frames, memory = self._frames, self._data
+        library.claxon_frames_go_on(frames, self._info.first_frame)
+        for _ in range(2):
+            needs_frames = library.claxon_clock_needs_frames(self._times.clock)
+            if frames.last.is_variable or not needs_frames:
+                break
+            arguments = [self._info, *BUFFERS.arguments()]
+            if library.claxon_frames_next_planar(frames, memory, len(memory), 0, 1, *arguments):
+                break
+            self._times.note(frames.last)
+
+    def events(self, sample: int) -> Events:
+        """How many samples come before the one that is sought, and the block that has it."""
+        self._note_first()
+        data, info, seeker = self._data, self._info, _calls.Seeker()
+        library.claxon_seeker_start(seeker, info, len(data), sample, self._times.clock)
+        start, end = 0, 0
+        while True:
+            held = data[start:end] if start < len(data) else b""
+            arguments = [info, *BUFFERS.arguments()[:3]]
+            is_end = end >= len(data)
+            status = library.claxon_seeker_next_planar(
+                seeker, held, len(held), start, is_end, *arguments
+            )
+            if status != NEED_MORE:
+                break
+            last = end if start <= seeker.position <= end else seeker.position
+            start, end = seeker.position, max(last, min(len(data), last + next(self._lengths)))
+        if status != OK:
+            return [("sought", None)]
+        self._frames.last = seeker.found
+        before = sample - BUFFERS.block.time
+        return [("sought", before), self._times.note(seeker.found)]
+
+
+def samples_of(rng: Random, shown: Events) -> List[int]:
+    """Samples to seek: at the borders of blocks, and others."""
+    blocks = [event for event in shown if event[0] == "block"]
+    times = [block[1] + rng.choice((-1, 0, block[3] - 1, block[3])) for block in blocks]
+    picked = [rng.choice(times) for _ in range(3)] if times else []
+    return [min(max(0, sample), (1 << 32) - 1) for sample in (*picked, rng.randrange(100000))]
 
 
 @functools.lru_cache(maxsize=1)
@@ -179,7 +259,9 @@ def stream_calls() -> ctypes.CDLL:
         words = ["cc", "-O1", "-fPIC", "-shared", "-I", str(TOP / "c"), "-o", str(built)]
         subprocess.run([*words, str(source), str(name)], check=True)
         found = ctypes.CDLL(str(built))
-    found.stream_begin.restype = ctypes.c_void_p
+    found.stream_begin.restype = found.stream_over.restype = ctypes.c_void_p
+    found.stream_over.argtypes = [ctypes.c_char_p, ctypes.c_size_t, ctypes.c_size_t]
+    found.stream_seek.argtypes = [ctypes.c_void_p, ctypes.c_uint64]
     found.stream_block.restype = ctypes.POINTER(_calls.Block)
     found.stream_samples.restype = ctypes.c_void_p
     found.stream_position.restype = ctypes.c_uint64
@@ -238,6 +320,23 @@ def stream_events(
             return
 
 
+def sought_by_stream(data: bytes, piece: int, samples: List[int]) -> Events:
+    """What claxon_stream_seek finds."""
+    calls = stream_calls()
+    events: Events = []
+    stream = ctypes.c_void_p(calls.stream_over(data, len(data), piece))
+    for sample in samples:
+        if calls.stream_seek(stream, sample) != OK or calls.stream_next_block(stream) != OK:
+            events.append(("sought", None))
+            continue
+        block = calls.stream_block(stream).contents
+        size = 4 * block.channels * block.duration
+        events.append(("sought", sample - block.time))
+        events.append(block_event(block, ctypes.string_at(calls.stream_samples(stream), size)))
+    calls.stream_end(stream)
+    return events
+
+
 # ---- the module for Python
 
 
@@ -274,9 +373,7 @@ def python_events(
     while True:
         try:
             for block in stream.blocks():
-                fields = (block.time, block.channels, block.duration)
-                rate, bits = block.sample_rate or 0, block.bits_per_sample or 0
-                yield ("block", *fields, rate, bits, block.planar.tobytes())
+                yield python_block(block)
             if not more():
                 return
         except claxon.Error as error:
@@ -290,6 +387,25 @@ def python_events(
             yield ("skipped", skipped)
             if skipped is None:
                 return
+
+
+def python_block(block: claxon.Block) -> Event:
+    fields = (block.time, block.channels, block.duration)
+    rate, bits = block.sample_rate or 0, block.bits_per_sample or 0
+    return ("block", *fields, rate, bits, block.planar.tobytes())
+
+
+def sought_by_file(data: bytes, samples: List[int]) -> Events:
+    """What `seek` of claxon.Flac finds."""
+    flac = claxon.Flac(io.BytesIO(data))
+    events: Events = []
+    for sample in samples:
+        try:
+            events.append(("sought", flac.seek(sample)))
+            events.append(python_block(next(flac.blocks())))
+        except claxon.NoSuchSample:
+            events.append(("sought", None))
+    return events
 
 
 def by_file(data: bytes, pieces: Pieces) -> Events:
@@ -332,11 +448,11 @@ def program_of(process: int) -> "subprocess.Popen[bytes]":
     )
 
 
-def by_crate(data: bytes, pieces: Pieces) -> List[Events]:
-    """What FlacReader says, without positions, and Decoder."""
+def by_crate(data: bytes, pieces: Pieces, samples: List[int], has_head: bool) -> List[Events]:
+    """What FlacReader says, without positions, and Decoder; and what they find at the samples."""
     program = program_of(os.getpid())
     assert program.stdin and program.stdout
-    numbers = [len(pieces), *pieces, len(data)]
+    numbers = [len(pieces), *pieces, len(samples), *samples, len(data)]
     program.stdin.write(struct.pack(f"<{len(numbers)}I", *numbers) + data)
     program.stdin.flush()
     found: List[Events] = [[]]
@@ -346,15 +462,15 @@ def by_crate(data: bytes, pieces: Pieces) -> List[Events]:
             raise ChildProcessError("the example events ended")
         kind, *words = line.split()
         if kind == "end":
-            if len(found) == 2:
+            if len(found) == (4 if has_head else 2):
                 return found
             found.append([])
         elif kind == "block":
             time, channels, duration, rate, bits = map(int, words)
-            samples = program.stdout.read(4 * channels * duration)
-            found[-1].append((kind, time, channels, duration, rate, bits, samples))
-        elif kind == "skipped":
-            found[-1].append((kind, None if words[0] == "all" else int(words[0])))
+            stored = program.stdout.read(4 * channels * duration)
+            found[-1].append((kind, time, channels, duration, rate, bits, stored))
+        elif kind in ("skipped", "sought"):
+            found[-1].append((kind, int(words[0]) if words[0].isdigit() else None))
         else:
             position = [int(words.pop(0))] if kind == "fault" and words[0].isdigit() else []
             found[-1].append((kind, *position, words[0], " ".join(words[1:])))
@@ -392,24 +508,39 @@ def answers_of(data: bytes, pieces: Pieces) -> Iterable[Answer]:
     yield Answer("claxon_stream.h", by_stream(data, pieces))
     yield Answer("Flac", by_file(data, pieces))
     yield Answer("Feed", by_feed(data, pieces))
-    reader, decoder = by_crate(data, pieces)
-    yield Answer("FlacReader", reader, has_positions=False)
-    yield Answer("Decoder", decoder)
+
+
+def sought_of(data: bytes, pieces: Pieces, samples: List[int]) -> Iterable[Answer]:
+    yield Answer("claxon_stream_seek", sought_by_stream(data, max(pieces, default=1), samples))
+    yield Answer("Flac.seek", sought_by_file(data, samples))
 
 
 def compare(rng: Random, data: bytes) -> Tuple[List[str], List[str]]:
     """The kinds of difference in what is said of a stream, and outcomes to count."""
     pieces = pieces_of(rng, len(data))
     info, expected = opened(data)
-    kinds, passes_over = [], False
+    kinds: List[str] = []
+    samples: List[int] = []
+    sought: Events = []
+    passes_over = False
     if info:
-        expected, passes_over = by_calls(data, pieces, info)
-        if not passes_over and in_memory(data, info) != expected:
+        whole, expected, passes_over = by_calls(data, pieces, info)
+        if not passes_over and in_memory(data, info) != whole:
             kinds.append("claxon_frames_next: another answer than of all bytes")
-    found = (difference(expected, answer) for answer in answers_of(data, pieces))
-    kinds += [kind for kind in found if kind]
+        samples, seeks = samples_of(rng, expected), Seeks(data, pieces, info)
+        sought = [event for sample in samples for event in seeks.events(sample)]
+    reader, decoder, *found = by_crate(data, pieces, samples, info is not None)
+    answers = [*answers_of(data, pieces), Answer("FlacReader", reader, has_positions=False)]
+    answers.append(Answer("Decoder", decoder))
+    kinds += [kind for kind in (difference(expected, answer) for answer in answers) if kind]
+    if info:
+        names = ("FlacReader::seek", "Decoder::seek")
+        answers = [Answer(*pair) for pair in zip(names, found)]
+        answers += sought_of(data, pieces, samples)
+        kinds += [kind for kind in (difference(sought, answer) for answer in answers) if kind]
     outcomes = ["a head with a fault" if info is None else "a head"]
-    outcomes += [event[0] for event in expected] + ["a header passed over"] * passes_over
+    outcomes += [event[0] for event in (*expected, *sought)]
+    outcomes += ["a header passed over"] * passes_over
     return kinds, outcomes
 
 

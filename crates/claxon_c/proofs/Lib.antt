@@ -32,3 +32,5 @@ pub mod TagEntries
 pub mod TagsRead
 -- What the calls answer for streams in pieces.
 pub mod StreamCalls
+-- The next frame of a stream in pieces.
+pub mod NextFrames

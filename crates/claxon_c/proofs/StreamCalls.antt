@@ -3,17 +3,22 @@ use Rattle.std.proofs.Common.{◌≡◌, ℕ, List, Option, subst}
 use Rattle.std.specs.Prelude.{Result}
 use Rattle.claxon.specs.Errors.{Error}
 use Rattle.claxon.specs.StreamInfos.{StreamInfo}
-use Rattle.claxon_stream.specs.FrameDecoder.{CutIsComplete, EndIsComplete, EventIsOfStream, EventIsSound, FaultIsComplete, FaultIsTimely, FrameIsComplete, FrameIsTimely, KeepsNotes, ReadOnIsComplete, WasteIsInVain}
+use Rattle.claxon_stream.specs.FrameDecoder.{CutIsComplete, EndIsComplete, EventIsOfStream, EventIsSound, FaultIsCharged, FaultIsComplete, FaultIsTimely, FrameIsComplete, FrameIsTimely, KeepsNotes, ReadOnIsComplete, WasteIsInVain}
 use Rattle.claxon_stream.specs.FrameFinder.{FindIsOfStream, FindIsTimely, FindKeepsNotes, FindNeedsMore, FindWasteIsInVain}
 use Rattle.claxon_stream.specs.declared.event.Event.{Event}
 use Rattle.claxon_stream.specs.declared.event.FindEvent.{FindEvent}
 use Rattle.claxon_stream.specs.declared.finder.FrameFinder.{FrameFinder}
 use Rattle.claxon_stream.specs.declared.frames.FrameDecoder.{FrameDecoder}
+use Rattle.claxon_stream_seek.specs.Search.{SearchNeedsMore}
+use Rattle.claxon_stream_seek.specs.Seeker.{SeekIsOfStream, SeekKeepsSought}
+use Rattle.claxon_stream_seek.specs.declared.event.SeekEvent.{SeekEvent}
+use Rattle.claxon_stream_seek.specs.declared.seeker.Seeker.{Seeker}
 use Rattle.claxon_c.specs.declared.heads.ClaxonInfo.{ClaxonInfo}
 use Rattle.claxon_c.specs.Frames.{IsNextEvent}
 use Rattle.claxon_c.specs.HeldBytes.{says_yes}
 use Rattle.claxon_c.specs.Info.{known_info}
 use Rattle.claxon_c.specs.Search.{IsNextFind}
+use Rattle.claxon_c.specs.Seeker.{IsNextSeek}
 
 module _ (info : ClaxonInfo) (known : Option StreamInfo) (same : known ≡ known_info info) (at : ℕ) (bytes : List ℕ) (is_end : ℕ) where
   -- an event that has these clauses is the next one
@@ -29,8 +34,9 @@ module _ (info : ClaxonInfo) (known : Option StreamInfo) (same : known ≡ known
       → FrameIsTimely known at bytes (says_yes is_end) old event new
       → FaultIsTimely known at bytes (says_yes is_end) old event
       → WasteIsInVain known at bytes (says_yes is_end) old event new
+      → FaultIsCharged known at bytes (says_yes is_end) old event new
       → IsNextEvent (known_info info) at bytes is_end old event new
-  next_event capacity old event new sound stream frame fault end cut more notes timely fault_timely waste =
+  next_event capacity old event new sound stream frame fault end cut more notes timely fault_timely waste charged =
       subst (λ (k : Option StreamInfo). IsNextEvent k at bytes is_end old event new) same (record {
         capacity = capacity;
         is_sound = sound;
@@ -44,6 +50,7 @@ module _ (info : ClaxonInfo) (known : Option StreamInfo) (same : known ≡ known
         frame_is_timely = timely;
         fault_is_timely = fault_timely;
         waste_is_in_vain = waste;
+        fault_is_charged = charged;
       })
 
   -- so is one of a search
@@ -61,4 +68,17 @@ module _ (info : ClaxonInfo) (known : Option StreamInfo) (same : known ≡ known
         keeps_notes = notes;
         is_timely = timely;
         waste_is_in_vain = waste;
+      })
+
+  -- so is one of a seek
+  pub next_seek : (old : Seeker) (event : Result SeekEvent Error) (new : Seeker)
+      → SeekKeepsSought old new
+      → SeekIsOfStream known at bytes (says_yes is_end) old event new
+      → SearchNeedsMore at bytes (says_yes is_end) event
+      → IsNextSeek (known_info info) at bytes is_end old event new
+  next_seek old event new keeps stream more =
+      subst (λ (k : Option StreamInfo). IsNextSeek k at bytes is_end old event new) same (record {
+        keeps_sought = keeps;
+        is_of_stream = stream;
+        needs_more = more;
       })

@@ -6,8 +6,11 @@ pub mod NextMetadata
 pub mod NextBlock
 pub mod Seek
 pub mod HeldBytes
+pub mod ShownFrame
+pub mod Clock
 pub mod Frames
 pub mod Search
+pub mod Seeker
 pub mod Head
 pub mod NextTag
 pub mod TagReader

@@ -1,8 +1,9 @@
--- What the calls answer that find the next frame of a stream in bytes that are handed in: the events
--- of `FrameFinder::find_next`.
+-- What the calls answer that find the next frame of a stream in bytes that are handed in: the
+-- events of `FrameFinder::find_next`.
 use Rattle.std.specs.Prelude.{◌≡◌, ℕ, ◌+◌, List, length, Option, Result, Ok, Err}
 use Rattle.claxon.specs.Errors.{Error}
 use Rattle.claxon.specs.StreamInfos.{StreamInfo}
+use Rattle.claxon_stream.specs.FrameDecoder.{without_faults}
 use Rattle.claxon_stream.specs.FrameFinder.{
   FindIsOfStream,
   FindIsTimely,
@@ -16,6 +17,7 @@ use Rattle.claxon_stream.specs.HeadDecoder.{PositionFits}
 use Rattle.claxon_stream.specs.declared.event.FindEvent.{FindEvent}
 use Rattle.claxon_stream.specs.declared.event.FindEvent.TheVariants.{Found, NotFound, ReadOn}
 use Rattle.claxon_stream.specs.declared.finder.FrameFinder.{FrameFinder}
+use Rattle.claxon_c.specs.declared.frames.ClaxonFrames.{ClaxonFrames}
 use Rattle.claxon_c.specs.declared.heads.ClaxonInfo.{ClaxonInfo}
 use Rattle.claxon_c.specs.declared.next_block.ClaxonBlock.{ClaxonBlock}
 use Rattle.claxon_c.specs.declared.search.ClaxonSearch.{ClaxonSearch}
@@ -26,6 +28,11 @@ use Rattle.claxon_c.specs.Status.{need_more, no_more, ok, out_of_memory, unsuppo
 
 abbrev pub needed_search : FrameFinder → ℕ → ClaxonSearch
 needed_search finder needed = record { finder = finder; needed = needed }
+
+-- the frames after a search was charged what their faults cost
+abbrev pub charged_frames : ClaxonFrames → ClaxonFrames
+charged_frames frames =
+    record { decoder = without_faults frames.decoder; needed = frames.needed; last = frames.last }
 
 -- It begins at the position, as with `FrameFinder::new`.
 pub record SearchBegins (position : ℕ) (new : ClaxonSearch) : Type 0 where

@@ -1,34 +1,49 @@
 //! The frames of a stream whose bytes the caller holds and hands in.
-ghost use Rattle.std.specs.Prelude.{◌≡◌, ◌+◌, ◌*◌, ◌<◌, ◌↔◌, IsTrue, length};
-ghost use Rattle.claxon.specs.Streams.{duration_of};
-ghost use Rattle.claxon_stream.specs.FrameDecoder.{IsFromPosition, decoder_position};
+ghost use Rattle.std.specs.Prelude.{◌≡◌, ◌+◌, IfSome, length};
+ghost use Rattle.std.specs.Option.{option_map};
+ghost use Rattle.claxon.specs.FrameReader.{stream_with};
+ghost use Rattle.claxon.specs.ShownHead.{HasBitDepth};
+ghost use Rattle.claxon_stream.specs.FrameDecoder.{IsFromPosition};
 ghost use Rattle.claxon_stream.specs.HeadDecoder.{PositionFits};
 ghost use Rattle.claxon_c.specs.Frames.{
   CFrameIsAnswered,
+  CFrameLargerIsTold,
   CFrameTooFarIsUnsupported,
   FramesBegin,
+  FramesWait,
+  IsBlockOrStatus,
+  IsLargerHeader,
   NextFrame,
+  NextLargerIsTold,
+  last_frame,
+  needed_by,
   needed_frames,
 };
 ghost use Rattle.claxon_c.specs.NextBlock.{InterleavedArePut, PlanarArePut};
 
+use crate::frame::ClaxonFrame;
 use crate::heads::ClaxonInfo;
 use crate::held::{position_fits, report_position};
 use crate::interleave::put_interleaved;
-use crate::next_block::ClaxonBlock;
+use crate::next_block::{ClaxonBlock, has_larger};
 use crate::planar::put_planar;
 use crate::status::{BUFFER_TOO_SMALL, INPUT_ENDS, NEED_MORE, NO_MORE, OK, put_text, report};
 use claxon::Block;
-use claxon_stream::{Event, FrameDecoder};
+use claxon::frame::BlockInfo;
+use claxon::metadata::StreamInfo;
+use claxon_seek::header_at_start;
+use claxon_stream::{Event, FrameDecoder, held_from};
 use std::alloc::Global;
 
 /// The frames of a stream, one after another.
 #[repr(C)]
 #[derive(Clone, Copy, Debug)]
 pub struct ClaxonFrames {
-    decoder: FrameDecoder,
+    pub(crate) decoder: FrameDecoder,
     /// After `NEED_MORE` how many bytes are needed at least, from the decoder's position on; else 0.
     pub needed: usize,
+    /// The frame that was decoded last.
+    pub last: ClaxonFrame,
 }
 
 /// Begins with the frame at this position of the stream.
@@ -39,6 +54,7 @@ pub extern "C" fn claxon_frames_start(frames: &mut ClaxonFrames, position: u64)
     *frames = ClaxonFrames {
         decoder: FrameDecoder::new(position),
         needed: 0,
+        last: ClaxonFrame::none(),
     };
 }
 
@@ -47,10 +63,12 @@ pub extern "C" fn claxon_frames_start(frames: &mut ClaxonFrames, position: u64)
 pub extern "C" fn claxon_frames_go_on(frames: &mut ClaxonFrames, position: u64)
     ensures from_position { IsFromPosition frames.old.decoder position frames.new.decoder }
     ensures needed { frames.new.needed ≡ 0 }
+    ensures last { frames.new.last ≡ frames.old.last }
 {
     *frames = ClaxonFrames {
         decoder: frames.decoder.from_position(position),
         needed: 0,
+        last: frames.last,
     };
 }
 
@@ -71,11 +89,16 @@ pub extern "C" fn claxon_frames_next(
     ensures is_answered { CFrameIsAnswered info.now at bytes.now is_end InterleavedArePut
         frames.old result frames.new samples.old samples.new block.old block.new
         error.old error.new }
+    ensures larger_is_told { CFrameLargerIsTold info.now at bytes.now frames.old result
+        samples.old }
     ensures too_far_is_unsupported { CFrameTooFarIsUnsupported at bytes.now frames.old result
         frames.new samples.old samples.new block.old block.new error.old error.new }
 {
     if !position_fits(at, bytes) {
         return report_position(error);
+    }
+    if is_waiting(frames, bytes, at, is_end) {
+        return NEED_MORE;
     }
     let capacity = samples.len();
     match next_frame(
@@ -105,11 +128,16 @@ pub extern "C" fn claxon_frames_next_planar(
     ensures is_answered { CFrameIsAnswered info.now at bytes.now is_end PlanarArePut
         frames.old result frames.new samples.old samples.new block.old block.new
         error.old error.new }
+    ensures larger_is_told { CFrameLargerIsTold info.now at bytes.now frames.old result
+        samples.old }
     ensures too_far_is_unsupported { CFrameTooFarIsUnsupported at bytes.now frames.old result
         frames.new samples.old samples.new block.old block.new error.old error.new }
 {
     if !position_fits(at, bytes) {
         return report_position(error);
+    }
+    if is_waiting(frames, bytes, at, is_end) {
+        return NEED_MORE;
     }
     let capacity = samples.len();
     match next_frame(
@@ -123,7 +151,23 @@ pub extern "C" fn claxon_frames_next_planar(
     }
 }
 
+// Whether nothing can be said yet, and how many bytes are needed then. Most calls answer that where bytes come one by one.
+fn is_waiting(frames: &mut ClaxonFrames, bytes: &[u8], at: u64, is_end: u32) -> bool
+    requires fits { PositionFits (at + length bytes.now) }
+    ensures { FramesWait at bytes.now is_end frames.old result frames.new }
+{
+    let mut decoder = frames.decoder;
+    match decoder.waits(bytes, at, is_end != 0) {
+        Some(needed) => {
+            *frames = needed_frames(decoder, needed.count, frames.last);
+            true
+        }
+        None => false,
+    }
+}
+
 // The block of the next frame, if the capacity suffices for its samples. Else the status.
+#[inline(never)]
 fn next_frame(
     alloc: Global,
     frames: &mut ClaxonFrames,
@@ -138,51 +182,96 @@ fn next_frame(
     requires fits { PositionFits (at + length bytes.now) }
     ensures next_frame { NextFrame info.now at bytes.now is_end capacity frames.old result
         frames.new block.old block.new error.old error.new }
+    ensures larger_is_told { NextLargerIsTold info.now at bytes.now capacity frames.old result }
 {
+    let known = info.known_stream();
     let mut decoder = frames.decoder;
-    match decoder.decode_next(Vec::new(alloc), bytes, at, is_end != 0, info.known_stream()) {
-        Ok(Event::Decoded(frame)) => {
-            *block = ClaxonBlock::from_header(&frame.info);
-            if is_larger(&frame.block, capacity) {
-                return Err(BUFFER_TOO_SMALL);
+    let position = decoder.position();
+    let rest = held_from(bytes, at, position);
+    if let Some(said) = larger_header(rest, known, capacity) {
+        *block = ClaxonBlock::from_header(&said);
+        return Err(BUFFER_TOO_SMALL);
+    }
+    let event = decoder.decode_next(Vec::new(alloc), bytes, at, is_end != 0, known);
+    let last = last_frame(&event, position, decoder.position(), frames.last);
+    *frames = needed_frames(decoder, needed_by(&event), last);
+    block_or_status(event, block, error)
+}
+
+// What the header says that the bytes begin with, if its block has more samples than the capacity.
+fn larger_header(bytes: &[u8], known: Option<StreamInfo>, capacity: usize) -> Option<BlockInfo>
+    requires { IfSome known (λ info. HasBitDepth info) }
+    ensures { IsLargerHeader (option_map stream_with known) bytes.now capacity result }
+{
+    match header_at_start(bytes, known) {
+        Ok(Some(header)) => {
+            let said = header.info();
+            if has_larger(&said, capacity) {
+                Some(said)
+            } else {
+                None
             }
-            *frames = needed_frames(decoder, 0);
-            Ok(frame.block)
         }
-        Ok(Event::End) => {
-            *frames = needed_frames(decoder, 0);
-            Err(NO_MORE)
-        }
-        Ok(Event::Faulty(fault)) => {
-            *frames = needed_frames(decoder, 0);
-            Err(report(&fault.error, error))
-        }
-        Ok(Event::Cut(_)) => {
-            *frames = needed_frames(decoder, 0);
-            put_text("the bytes end", error);
-            Err(INPUT_ENDS)
-        }
-        Ok(Event::ReadOn(needed)) => {
-            *frames = needed_frames(decoder, needed.count);
-            Err(NEED_MORE)
-        }
-        Err(fault) => {
-            *frames = needed_frames(decoder, 0);
-            Err(report(&fault, error))
-        }
+        Ok(None) => None,
+        Err(_) => None,
     }
 }
 
-fn needed_frames(decoder: FrameDecoder, needed: usize) -> ClaxonFrames
-    ensures { result ≡ needed_frames decoder needed }
+// How many bytes are needed after this event.
+fn needed_by(event: &claxon::Result<Event>) -> usize
+    ensures { result ≡ needed_by event.now }
 {
-    ClaxonFrames { decoder, needed }
+    match event {
+        Ok(Event::ReadOn(needed)) => needed.count,
+        _ => 0,
+    }
 }
 
-// Whether the block has more samples than this capacity.
-fn is_larger(block: &Block, capacity: usize) -> bool
-    ensures { IsTrue result
-        ↔ (capacity < length block.now.channels * duration_of block.now.channels) }
+// The frame of this event, between these positions. Else the one before.
+fn last_frame(
+    event: &claxon::Result<Event>,
+    position: u64,
+    end: u64,
+    last: ClaxonFrame,
+) -> ClaxonFrame
+    ensures { result ≡ last_frame event.now position end last }
 {
-    block.channels() as usize * block.duration() as usize > capacity
+    match event {
+        Ok(Event::Decoded(frame)) => ClaxonFrame::new(position, end, &frame.info),
+        _ => last,
+    }
+}
+
+// The block of a frame, whose properties are shown. Else the status, and the text of a fault.
+fn block_or_status(
+    event: claxon::Result<Event>,
+    block: &mut ClaxonBlock,
+    error: &mut [u8],
+) -> Result<Block, u32>
+    ensures { IsBlockOrStatus block.old block.new error.old error.new event result }
+{
+    match event {
+        Ok(Event::Decoded(frame)) => {
+            *block = ClaxonBlock::from_header(&frame.info);
+            Ok(frame.block)
+        }
+        Ok(Event::End) => Err(NO_MORE),
+        Ok(Event::Faulty(fault)) => Err(report(&fault.error, error)),
+        Ok(Event::Cut(_)) => {
+            put_text("the bytes end", error);
+            Err(INPUT_ENDS)
+        }
+        Ok(Event::ReadOn(_)) => Err(NEED_MORE),
+        Err(fault) => Err(report(&fault, error)),
+    }
+}
+
+fn needed_frames(decoder: FrameDecoder, needed: usize, last: ClaxonFrame) -> ClaxonFrames
+    ensures { result ≡ needed_frames decoder needed last }
+{
+    ClaxonFrames {
+        decoder,
+        needed,
+        last,
+    }
 }

@@ -5,9 +5,11 @@ ghost use Rattle.claxon_c.specs.Search.{
   CFindIsAnswered,
   CFindTooFarIsUnsupported,
   SearchBegins,
+  charged_frames,
   needed_search,
 };
 
+use crate::frames::ClaxonFrames;
 use crate::heads::ClaxonInfo;
 use crate::held::position_fits;
 use crate::next_block::ClaxonBlock;
@@ -32,14 +34,20 @@ pub extern "C" fn claxon_search_start(search: &mut ClaxonSearch, position: u64)
     *search = needed_search(FrameFinder::new(position), 0);
 }
 
-/// Goes on from another position, as after frames that were decoded. What the search cost is kept, so that the time stays linear.
+/// Goes on from another position, as after frames that were decoded. What the search and the faults of these frames cost is kept, so
+/// that the time stays linear.
 #[unsafe(no_mangle)]
-pub extern "C" fn claxon_search_go_on(search: &mut ClaxonSearch, position: u64)
-    ensures goes_on { GoesOn position search.old.finder search.new.finder }
+pub extern "C" fn claxon_search_go_on(
+    search: &mut ClaxonSearch,
+    frames: &mut ClaxonFrames,
+    position: u64,
+)
+    ensures goes_on { GoesOn position frames.old.decoder search.old.finder search.new.finder }
     ensures needed { search.new.needed ≡ 0 }
+    ensures taken { frames.new ≡ charged_frames frames.old }
 {
     let mut finder = search.finder;
-    finder.go_on(position);
+    finder.go_on(position, &mut frames.decoder);
     *search = needed_search(finder, 0);
 }
 

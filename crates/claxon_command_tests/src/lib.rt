@@ -12,6 +12,8 @@ mod errors;
 #[cfg(test)]
 mod info;
 #[cfg(test)]
+mod inputs;
+#[cfg(test)]
 mod json;
 #[cfg(test)]
 mod names;

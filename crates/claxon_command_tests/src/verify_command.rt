@@ -167,6 +167,20 @@ fn command_lines(rt: HostRuntime) -> Result<(), Fail> {
     Ok(())
 }
 
+// Whether a command line with this input has this status and this output, and no errors.
+fn says(
+    rt: &HostRuntime,
+    row: &[&str],
+    input: &[u8],
+    want: u8,
+    want_output: &str,
+) -> Result<bool, Fail> {
+    let words = words(rt.alloc(), row)?;
+    let (mut output, mut errors): (Vec<u8>, Vec<u8>) = (Vec::new(rt.alloc()), Vec::new(rt.alloc()));
+    let status = command(rt, words.as_slice(), input, &mut output, false, &mut errors);
+    Ok(status == want && output.as_slice() == want_output.as_bytes() && errors.is_empty())
+}
+
 // A right stream without an MD5 sum, which `-q` shows, but not where no sum is computed.
 #[test]
 fn a_file_without_a_sum(rt: HostRuntime) -> Result<(), Fail> {
@@ -178,18 +192,36 @@ fn a_file_without_a_sum(rt: HostRuntime) -> Result<(), Fail> {
         (&["-q", "--no-md5", "-"], ""),
     ];
     for (row, want) in rows {
-        let words = words(rt.alloc(), row)?;
-        let (mut output, mut errors) = (Vec::new(rt.alloc()), Vec::new(rt.alloc()));
-        let status = command(
-            &rt,
-            words.as_slice(),
-            stream.as_slice(),
-            &mut output,
-            false,
-            &mut errors,
+        assert!(rt; says(&rt, row, stream.as_slice(), 0, want)?, "{row:?}");
+    }
+    Ok(())
+}
+
+// A streaminfo of 32 bits per sample, and the first bytes of a frame with the code for them.
+const DEEP_INFO: [u8; 2] = [0x41, 0xf0];
+
+const DEEP_HEADER: [u8; 5] = [0xff, 0xf8, 0x69, 0x0e, 0x00];
+
+// The last metadata block: Vorbis comments, of which a tag has no `=`.
+const NO_SEPARATOR: &[u8] = b"\x84\0\0\x0f\0\0\0\0\x01\0\0\0\x03\0\0\0Abc";
+
+// Streams that aren't supported, of which `-q` has a line.
+#[test]
+fn a_file_that_is_not_supported(rt: HostRuntime) -> Result<(), Fail> {
+    let mut deep_head = head(0x80);
+    deep_head[20..22].copy_from_slice(&DEEP_INFO);
+    let deep = joined(rt.alloc(), &[&deep_head, &DEEP_HEADER])?;
+    let tagged = joined(rt.alloc(), &[&head(0x00), NO_SEPARATOR, &FRAME])?;
+    let rows = [
+        (deep, "standard input: not supported, 32-bit samples\n"),
+        (tagged, "standard input: not supported, a tag without '='\n"),
+    ];
+    for (stream, line) in &rows {
+        assert!(rt; says(&rt, &["-"], stream.as_slice(), 3, *line)?, "{line}");
+        assert!(rt;
+            says(&rt, &["-q", "-"], stream.as_slice(), 3, *line)?,
+            "{line}"
         );
-        assert!(rt; status == 0 && errors.is_empty(), "{row:?}");
-        assert!(rt; output.as_slice() == want.as_bytes(), "{row:?}");
     }
     Ok(())
 }

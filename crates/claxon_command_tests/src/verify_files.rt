@@ -49,6 +49,25 @@ fn put_files(rt: &HostRuntime, folder: &str, kinds: [Kind; 3]) -> Result<Vec<Str
     Ok(paths)
 }
 
+// Files whose names begin with dots, and one in such a folder, in order of their names.
+const HIDDEN: [&str; 4] = ["...flac", "..a.flac", ".b.flac", ".c/.d.flac"];
+
+// Whether a folder with these files has a line for each of them.
+fn tells_hidden(rt: &HostRuntime, folder: &str) -> Result<bool, Fail> {
+    let right = joined(rt.alloc(), &[&head(0x80), &FRAME])?;
+    let mut lines = String::new(rt.alloc());
+    for name in HIDDEN {
+        let path = format!(in rt.alloc(); "{folder}/{name}")?;
+        fs::write(rt, path.as_str(), right.as_slice())?;
+        write!(&mut lines, "{path}: ok, 1 frame, 1 sample, no MD5 sum\n")?;
+    }
+    let words = owned(rt.alloc(), &["-r", folder])?;
+    Ok(match said(rt, &words, b"") {
+        Some((0, output)) => output.as_slice() == lines.as_bytes(),
+        _ => false,
+    })
+}
+
 // The status and the output of a command line, if there are no errors.
 fn said(rt: &HostRuntime, words: &[String], input: &[u8]) -> Option<(u8, Vec<u8>)> {
     let (mut output, mut errors): (Vec<u8>, Vec<u8>) = (Vec::new(rt.alloc()), Vec::new(rt.alloc()));
@@ -101,6 +120,18 @@ fn worst_status(rt: HostRuntime) -> Result<(), Fail> {
             "{kinds:?}"
         );
     }
+    fs::remove_dir_all(&rt, folder.as_str())?;
+    Ok(())
+}
+
+// No file is hidden from `-r`: only `.` and `..` are passed over.
+#[test]
+fn hidden_files(rt: HostRuntime) -> Result<(), Fail> {
+    let folder = path_of(&rt, "hidden_files")?;
+    let inner = format!(in rt.alloc(); "{folder}/.c")?;
+    fs::create_dir(&rt, folder.as_str())?;
+    fs::create_dir(&rt, inner.as_str())?;
+    assert!(rt; tells_hidden(&rt, folder.as_str())?);
     fs::remove_dir_all(&rt, folder.as_str())?;
     Ok(())
 }

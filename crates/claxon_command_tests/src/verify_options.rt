@@ -1,6 +1,6 @@
 //! Command lines of `claxon verify`.
 use claxon_command_line::arguments::Notice;
-use claxon_commands::verify::options::{NamedFiles, Options, parse};
+use claxon_verdict::options::{NamedFiles, Options, parse};
 use std::alloc::{AllocError, Global};
 use std::test::Fail;
 

@@ -1,2 +1,1 @@
-pub mod VerifyOptions
 pub mod WavStatus

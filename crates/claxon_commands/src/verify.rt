@@ -10,6 +10,7 @@ use claxon_command_line::names::{escaped_bytes, not_utf8_name, read_name};
 use claxon_command_line::progress::{Position, Progress, file_label};
 use claxon_program::Program;
 use claxon_verdict::container::container;
+use claxon_verdict::options::{FileNames, NamedFiles, Options, VerifyRequest, parse};
 use claxon_verdict::print::{
     PrintOptions, print_failure, print_not_read, print_report, print_summary, print_unread,
 };
@@ -21,10 +22,6 @@ use std::alloc::Global;
 use std::io::{Cursor, Read, Write};
 use std::rt::Files;
 use std::str;
-
-pub mod options;
-
-use options::{FileNames, NamedFiles, Options, VerifyRequest, parse};
 
 /// What the command says about itself.
 pub const PROGRAM: Program = Program {

@@ -6,7 +6,6 @@ ghost use Rattle.claxon_wav.specs.Conversion.{ConversionIsSound};
 
 use claxon::FlacReader;
 use claxon::metadata::StreamInfo;
-use claxon_blocks::md5_verdict::Md5Verdict;
 use claxon_command_line::arguments::{Argument, Arguments, Notice};
 use claxon_command_line::input::{STANDARD, open_input};
 use claxon_command_line::messages::{Part, print_error, print_message};
@@ -15,7 +14,7 @@ use claxon_command_line::progress::Progress;
 use claxon_command_line::text::count_text;
 use claxon_program::Program;
 use claxon_verdict::text::frame_text;
-use claxon_wav::{Conversion, Error, Plan, Result, write_file, write_stream};
+use claxon_wav::{Conversion, Error, Mismatch, Plan, Result, write_file, write_stream};
 use std::alloc::{AllocError, Global};
 use std::fs::OpenFile;
 use std::io::{Read, Write};
@@ -204,6 +203,18 @@ fn write_wav<Q: Files + AllocGlobal, R: Read + Drop, W: Write + Drop, E: Write>(
 // That the MD5 sum of the samples is another one.
 const OTHER_MD5: &str = "the MD5 sum of the samples isn't that of the streaminfo";
 
+// What the streaminfo says otherwise than so many samples.
+fn mismatch_text(
+    alloc: Global,
+    mismatch: Mismatch,
+    found: u32,
+) -> result::Result<String, AllocError> {
+    match mismatch {
+        Mismatch::Samples(known) => samples_text(alloc, known, found),
+        Mismatch::Md5 => String::from_str(alloc, OTHER_MD5),
+    }
+}
+
 // That another number of samples was found than the streaminfo says.
 fn samples_text(alloc: Global, known: u64, found: u32) -> result::Result<String, AllocError> {
     let counted = count_text(alloc, u64::from(found), "sample")?;
@@ -223,19 +234,14 @@ fn conversion_status<E: Write>(
     ensures { result ≡ status_after info.now.samples outcome }
 {
     match outcome {
-        Ok(Conversion { samples, md5 }) => match (info.samples, md5) {
-            (Some(known), _) if known != u64::from(samples) => {
-                let text = samples_text(alloc, known, samples);
-                print_message(alloc, from, Part::Head, text, errors);
-                1
-            }
-            (_, Md5Verdict::Wrong) => {
-                let text = String::from_str(alloc, OTHER_MD5);
-                print_message(alloc, from, Part::Head, text, errors);
-                1
-            }
-            _ => 0,
-        },
+        Ok(conversion) => {
+            let Some(mismatch) = conversion.mismatch(info) else {
+                return 0;
+            };
+            let text = mismatch_text(alloc, mismatch, conversion.samples);
+            print_message(alloc, from, Part::Head, text, errors);
+            1
+        }
         Err(error) => {
             print_conversion_error(alloc, from, to, error, errors);
             1

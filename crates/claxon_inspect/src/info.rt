@@ -1,11 +1,10 @@
 //! The command `info`: the facts in the head of FLAC files.
-use crate::facts::write_facts;
 use claxon::{Error, FlacReader, Result};
 use claxon_command_line::arguments::Operands;
 use claxon_command_line::input::{STANDARD, open_input};
 use claxon_command_line::messages::{Part, line, print_error};
 use claxon_command_line::names::not_utf8_name;
-use claxon_program::Program;
+use claxon_program::{Program, write_facts};
 use claxon_write::{Output, open_head};
 use std::alloc::Global;
 use std::io::{Read, Write};

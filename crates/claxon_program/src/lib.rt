@@ -1,6 +1,8 @@
-//! What a program and its commands print about themselves: help, version, usage line.
+//! What commands print: help, version and usage line of a program, and the facts in the head of a stream.
 #![tactic(auto)]
 
+mod facts;
 mod program;
 
+pub use facts::write_facts;
 pub use program::{Program, VERSION};

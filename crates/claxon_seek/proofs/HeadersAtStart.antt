@@ -113,7 +113,7 @@ module _ (stream : Option StreamFormat) (depth : IsBitDepth (known_bit_depth str
   no_frame b (t, rest, c, e) = let k = frame_has_header stream b t rest c in none k.0 (k.2.0, k.2.1, k.2.2, e ∙ k.2.3)
 
   -- and if with the fault of a frame, then with that of its header
-  fault_of_header : (f : Fault) → BeginsWith (FrameBytesFault stream f) bytes → BeginsWith (HeaderBytesFault stream f) bytes
+  pub fault_of_header : (f : Fault) → BeginsWith (FrameBytesFault stream f) bytes → BeginsWith (HeaderBytesFault stream f) bytes
   unfolding frame_without_crc_at
   fault_of_header f (t, rest, bad, e) = go (start_at stream bytes) refl
     where

@@ -15,15 +15,19 @@ pub const MAX_STEPS: u32 = 96;
 // How many before each other step halves the bytes.
 const STEPS_BY_TIME: u32 = 8;
 
-/// Positions between which the frame is, if times ascend.
+// The time of a frame of which it isn't known.
+const NOT_KNOWN: u64 = u64::MAX;
+
+/// Positions between which the frame is, if times ascend. In memory it is laid out as the same struct in C.
+#[repr(C)]
 #[derive(Clone, Copy, Debug)]
 pub struct Span {
     // The position after a frame that ends at `start_time`, or of the first frame.
     start: usize,
     start_time: u64,
-    // A position from which on frames are later than the sample, and the time of the first of them, if it is known.
+    // A position from which on frames are later than the sample, and the time of the first of them, or NOT_KNOWN.
     pub end: usize,
-    end_time: Option<u64>,
+    end_time: u64,
     ghost ordered: { start ≤ end },
 }
 
@@ -51,7 +55,9 @@ impl Span {
             start: first_frame,
             start_time: 0,
             end,
-            end_time: known.and_then(|info| info.samples.filter(|samples| sample < *samples)),
+            end_time: known
+                .and_then(|info| info.samples.filter(|samples| sample < *samples))
+                .unwrap_or(NOT_KNOWN),
         }
     }
 
@@ -62,16 +68,13 @@ impl Span {
     {
         let width = self.end - self.start;
         let halves = step >= STEPS_BY_TIME && step % 2 == 1;
-        let Some(end_time) = self.end_time else {
-            return self.start + width / 2;
-        };
-        if halves || end_time <= self.start_time {
+        if halves || self.end_time == NOT_KNOWN || self.end_time <= self.start_time {
             return self.start + width / 2;
         }
         let ahead = sample
             .saturating_sub(self.start_time)
             .saturating_sub(block_size);
-        let duration = end_time - self.start_time;
+        let duration = self.end_time - self.start_time;
         let offset = match (width as u64).checked_mul(ahead) {
             Some(product) => product / duration,
             None => width as u64 / 2,
@@ -107,7 +110,7 @@ impl Span {
             start: self.start,
             start_time: self.start_time,
             end: position,
-            end_time: frame.map_or(self.end_time, |frame| Some(frame.block.time)),
+            end_time: frame.map_or(self.end_time, |frame| frame.block.time),
         }
     }
 
@@ -128,11 +131,7 @@ impl Span {
 
     /// Whether a header between the positions can say this.
     pub fn is_likely(&self, block: &BlockInfo) -> bool {
-        block.time >= self.start_time
-            && match self.end_time {
-                Some(end_time) => block.time < end_time,
-                None => true,
-            }
+        block.time >= self.start_time && block.time < self.end_time
     }
 }
 

@@ -10,6 +10,12 @@ pub mod OneAnswers
 pub mod FrameEnds
 -- What a decoder noted of a stream.
 pub mod Notes
+-- What a header says, and whether bytes begin with one.
+pub mod HeadersSaid
+-- What a fault costs.
+pub mod Charges
+-- What is answered where nothing is tried.
+pub mod Waiting
 -- A search for a frame, position by position.
 pub mod Searching
 -- A search for a frame, where a frame is tried.

@@ -1,8 +1,8 @@
 -- What a decoder noted of a stream.
-use Rattle.std.proofs.Common.{◌≡◌, ◌⊎◌, inl, inr, ℕ, ◌+◌, ◌<◌, ◌≤◌, Bool, true, false, List, ◌++◌, length, take, drop, Option, None, Some, refl, sym, ap, subst, ◌∙◌, append_assoc, arith}
+use Rattle.std.proofs.Common.{◌≡◌, ◌⊎◌, inl, inr, ℕ, ◌+◌, ◌*◌, ◌<◌, ◌≤◌, Bool, true, false, List, ◌++◌, length, take, drop, Option, None, Some, refl, sym, ap, subst, ◌∙◌, append_assoc, arith}
 use Rattle.std.specs.Option.{option_map}
 use Rattle.std.specs.Prelude.{IfSome, Result, Ok, Err}
-use Rattle.std.proofs.lemmas.Bool.{cases_lt}
+use Rattle.std.proofs.lemmas.Bool.{cases_lt, false≢true}
 use Rattle.claxon.specs.Block.{max_block_samples}
 use Rattle.claxon.specs.Errors.{Error}
 use Rattle.claxon.specs.Fault.{Fault}
@@ -11,12 +11,14 @@ use Rattle.claxon.specs.FrameReader.{stream_with}
 use Rattle.claxon.specs.ShownHead.{HasBitDepth}
 use Rattle.claxon.specs.StreamInfos.{StreamInfo}
 use Rattle.claxon_stream.specs.Event.{EventIs, IsOpen, IsReadOn}
-use Rattle.claxon_stream.specs.FrameEnd.{IsZeroWithin, Knows, StartsWith}
+use Rattle.claxon_stream.specs.FrameDecoder.{IsDue}
+use Rattle.claxon_stream.specs.FrameEnd.{IsZeroWithin, Knows, StartsWith, tried_bytes}
 use Rattle.claxon_stream.specs.Held.{StandsIn, held_from}
 use Rattle.claxon_stream.specs.Noted.{EndIsAfter, IsWorkOf}
 use Rattle.claxon_stream.specs.declared.ending.FrameEnd.{FrameEnd}
 use Rattle.claxon_stream.specs.declared.event.Event.{Event}
 use Rattle.claxon_stream.specs.declared.event.Event.TheVariants.{Cut, Decoded, End, Faulty, ReadOn}
+use Rattle.claxon_stream.specs.declared.frames.FrameDecoder.{FrameDecoder}
 use Rattle.claxon_stream.proofs.FrameEnds.{part_first}
 use Rattle.claxon_stream.proofs.HeldBytes.{held_stands}
 
@@ -61,3 +63,26 @@ wasted_by (Err e) due rest work h = inl h
 
 pub zero_before : (bytes : List ℕ) (n m : ℕ) → n ≤ m → IsZeroWithin bytes n → IsZeroWithin bytes m
 zero_before bytes n m le z = (z.0, z.1, omega (arith, z.2, le), z.3)
+
+-- ---- what is due to be tried
+
+pub not_due : (rest : List ℕ) (ends : Bool) (s : FrameDecoder) (due : Bool) → IsDue rest ends s due → due ≡ false → (ends ≡ false) × (length rest < 2 * tried_bytes s.end)
+not_due rest ends s due h e = (
+  other ends refl,
+  elim (cases_lt (length rest) (2 * tried_bytes s.end)) [
+    | inl lt ↦ lt
+    | inr le ↦ absurd (false≢true (sym e ∙ h.1 (inr le)))
+  ],
+)
+  where
+    other : (b : Bool) → ends ≡ b → ends ≡ false
+    other false is = is
+    other true is = absurd (false≢true (sym e ∙ h.1 (inl is)))
+
+pub is_not_due : (rest : List ℕ) (ends : Bool) (s : FrameDecoder) (due : Bool) → IsDue rest ends s due → ends ≡ false → length rest < 2 * tried_bytes s.end → due ≡ false
+is_not_due rest ends s false h goes few = refl
+is_not_due rest ends s true h goes few = absurd (elim (h.0 refl) [ inl e ↦ false≢true (sym goes ∙ e) | inr le ↦ omega (arith, few, le) ])
+
+pub none_of : {A : Type 0} (r : Option A) → ((x : A) → r ≡ Some x → ⊥) → r ≡ None
+none_of None h = refl
+none_of (Some x) h = absurd (h x refl)

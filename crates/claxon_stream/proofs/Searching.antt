@@ -7,18 +7,19 @@ use Rattle.claxon.specs.BlockInfos.{BlockInfo}
 use Rattle.claxon.specs.FrameReader.{stream_with}
 use Rattle.claxon.specs.ShownHead.{HasBitDepth}
 use Rattle.claxon.specs.StreamInfos.{StreamInfo}
-use Rattle.claxon_seek.specs.Find.{WantedHeader}
+use Rattle.claxon_seek.specs.Find.{WantedHeader, known_format}
 use Rattle.claxon_seek.proofs.Searches.{header_longer}
 use Rattle.claxon_stream.specs.Budget.{counted_position, made_good, wasted_work, work_left}
 use Rattle.claxon_stream.specs.FrameDecoder.{IsFromPosition, IsRightOf, decoder_position}
 use Rattle.claxon_stream.specs.FrameEnd.{summed_bytes}
-use Rattle.claxon_stream.specs.FrameFinder.{GoesTo, IsTriedOrPassedOver, cost_at, finder_cost, finder_position}
+use Rattle.claxon_stream.specs.FrameFinder.{GoesTo, IsTriedOrPassedOver, PassesUnread, cost_at, finder_cost, finder_position}
 use Rattle.claxon_stream.specs.HeaderThere.{HeaderIsThere}
 use Rattle.claxon_stream.specs.Held.{StandsIn, ends_there, held_from}
 use Rattle.claxon_stream.specs.Search.{Cost, FitsBudget, Passes, PassesByte, after_bytes, after_passing_over, samples_of}
 use Rattle.claxon_stream.specs.declared.finder.FrameFinder.{FrameFinder}
 use Rattle.claxon_stream.specs.declared.frames.FrameDecoder.{FrameDecoder}
 use Rattle.claxon_stream.specs.declared.header.HeaderThere.TheVariants.{CutHeader, NotWanted}
+use Rattle.claxon_stream.proofs.HeadersSaid.{header_has_samples, header_or_none}
 use Rattle.claxon_stream.proofs.HeldBytes.{held_stands}
 use Rattle.claxon_stream.proofs.Notes.{known_depth}
 
@@ -164,3 +165,21 @@ module _ (known : Option StreamInfo) (at : ℕ) (bytes : List ℕ) (is_end : Boo
             (λ stream stands right. subst (IsRightOf known stream) (sym p.2) (s.right stream stands right))
             (omega (arith, s.summed, ap (λ (d : FrameDecoder). summed_bytes d.end) p.2))
             (λ stream stands right. omega (arith, s.waste stream stands right, ap (λ (d : FrameDecoder). wasted_work d.budget) p.2))
+
+      -- nothing is read there, as a header would be passed over
+      pub passed_unread : PassesUnread position now → Searching now (position + 1)
+      passed_unread (over, none_left) = pass now byte (omega (arith, s.counted)) s.right s.summed s.waste
+        where
+          byte : (stream : List ℕ) → StandsIn stream at bytes is_end → PassesByte known (drop position stream) (cost_at now position) (cost_at now (position + 1))
+          byte stream stands = elim (header_or_none known (drop position stream)) [
+            | inl (info, wanted) ↦ inr (
+              info,
+              wanted,
+              inl (
+                λ fits. omega (arith, fits, none_left, header_has_samples (known_format known) info wanted.header.0 wanted.header.2),
+                next_cost now position s.counted
+                    ∙ ap (after_bytes 1) (cost_is ((cost_at now position).wasted) ((cost_at now position).wasted) now.has_passed_over true refl over),
+              ),
+            )
+            | inr none ↦ inl (none, next_cost now position s.counted)
+          ]

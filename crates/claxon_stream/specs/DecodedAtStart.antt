@@ -1,5 +1,7 @@
 -- The frame that bytes begin with, what its header says, and how many bytes it has.
-use Rattle.std.specs.Prelude.{◌≡◌, ℕ, List, ◌++◌, length, Option, IfOk, IfSome}
+use Rattle.std.specs.Prelude.{◌≡◌, ◌⊎◌, ℕ, ◌*◌, List, ◌++◌, length, Option, IfOk, IfSome}
+use Rattle.claxon.specs.BlockInfo.{HeaderOf}
+use Rattle.claxon.specs.BlockInfos.{BlockInfo}
 use Rattle.claxon.specs.DecodedFrame.{DecodedAnswer, FrameWithHeader, decoded_view, frame_answer}
 use Rattle.claxon.specs.Error.{IsFault}
 use Rattle.claxon.specs.Fault.{Fault}
@@ -18,6 +20,14 @@ use Rattle.claxon.specs.Promises.{IsOutOfMemory}
 abbrev pub BeginsWithLength : (List ℕ → Type 0) → List ℕ → ℕ → Type 0
 BeginsWithLength Code bytes count =
     (t : List ℕ) × (rest : List ℕ) × Code t × (bytes ≡ t ++ rest) × (count ≡ length t)
+
+-- The number of samples, of all channels, that the header says with which the bytes begin; 0 if they
+-- begin with none.
+abbrev pub SamplesAreSaid : Option StreamFormat → List ℕ → ℕ → Type 0
+SamplesAreSaid stream bytes count =
+    ((info : BlockInfo) × BeginsWith (HeaderOf stream info) bytes
+    × (count ≡ info.channels * info.duration))
+    ⊎ (((info : BlockInfo) → BeginsWith (HeaderOf stream info) bytes → ⊥) × (count ≡ 0))
 
 -- The bytes begin with the frame that is returned, or with what the error says, or they are too few
 -- for a frame. Of a frame or a fault `taken` is the number of its bytes.

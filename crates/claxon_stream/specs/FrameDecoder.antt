@@ -2,8 +2,10 @@
 use Rattle.std.specs.Prelude.{
   ◌≡◌,
   ◌⊎◌,
+  ◌↔◌,
   ℕ,
   ◌+◌,
+  ◌-◌,
   ◌*◌,
   ◌<◌,
   ◌≤◌,
@@ -16,6 +18,8 @@ use Rattle.std.specs.Prelude.{
   length,
   max,
   Option,
+  None,
+  Some,
   Result,
   Ok,
 }
@@ -37,8 +41,10 @@ use Rattle.claxon_stream.specs.Event.{
   IsFaultyAnd,
   IsOpen,
   IsReadOn,
+  needed_after,
 }
-use Rattle.claxon_stream.specs.Budget.{IsSpent, wasted_work}
+use Rattle.claxon_stream.specs.Budget.{IsSpent, charged, wasted_work}
+use Rattle.claxon_stream.specs.DecodedAtStart.{SamplesAreSaid}
 use Rattle.claxon_stream.specs.FrameEnd.{
   IsZeroWithin,
   Knows,
@@ -49,7 +55,8 @@ use Rattle.claxon_stream.specs.FrameEnd.{
 }
 use Rattle.claxon_stream.specs.Held.{StandsIn, ends_there, held_from}
 use Rattle.claxon_stream.specs.declared.event.Event.{Event}
-use Rattle.claxon_stream.specs.declared.event.Event.TheVariants.{End}
+use Rattle.claxon_stream.specs.declared.event.Event.TheVariants.{Cut, End, Faulty, ReadOn}
+use Rattle.claxon_stream.specs.declared.event.NeededBytes.{NeededBytes}
 use Rattle.claxon_stream.specs.declared.frames.FrameDecoder.{FrameDecoder}
 
 -- `frames.position()`
@@ -59,6 +66,15 @@ decoder_position s = s.position
 -- how much work of tries in vain wasn't made good
 abbrev pub tries_wasted : FrameDecoder → ℕ
 tries_wasted s = wasted_work s.budget
+
+-- what faults cost that no search was charged yet
+abbrev pub cost_of_faults : FrameDecoder → ℕ
+cost_of_faults s = s.faults
+
+-- the same decoder after a search was charged
+abbrev pub without_faults : FrameDecoder → FrameDecoder
+without_faults s =
+    record { position = s.position; end = s.end; budget = s.budget; faults = 0 }
 
 -- `frames.is_over_budget()`
 abbrev pub IsOverBudget : FrameDecoder → Type 0
@@ -73,6 +89,7 @@ StartsRight s = StartKnows s.end
 pub record IsFromPosition (old : FrameDecoder) (at : ℕ) (new : FrameDecoder) : Type 0 where
   pub position : decoder_position new ≡ at
   pub budget : new.budget ≡ old.budget
+  pub faults : new.faults ≡ old.faults
   pub starts : StartsRight new
   pub summed : summed_bytes new.end ≡ 0
 
@@ -178,19 +195,69 @@ module _ (known : Option StreamInfo) (at : ℕ) (bytes : List ℕ) (is_end : Boo
       × (tries_wasted new ≤ tries_wasted old
       + (length (held_from at (decoder_position old) bytes) + max_block_samples)))
 
+-- ---- what faults cost
+
+-- There was a fault, or the stream ends within a frame.
+abbrev pub IsFaultyOrCut : Result Event Error → Type 0
+IsFaultyOrCut (Ok (Faulty fault)) = Unit {0}
+IsFaultyOrCut (Ok (Cut at)) = Unit {0}
+IsFaultyOrCut _ = ⊥
+
+module _ (known : Option StreamInfo) (at : ℕ) (bytes : List ℕ) (is_end : Bool)
+    (old : FrameDecoder) (result : Result Event Error) (new : FrameDecoder) where
+  -- What a fault or a cut frame cost is noted: the bytes that are passed, and the samples that its
+  -- header says. Of a stream that is the same, wherever it is cut.
+  abbrev pub FaultIsCharged : Type 0
+  FaultIsCharged = (stream : List ℕ) → StandsIn stream at bytes is_end
+      → (IsFaultyOrCut result → (samples : ℕ)
+      × SamplesAreSaid (option_map stream_with known) (drop (decoder_position old) stream) samples
+      × (cost_of_faults new ≡ charged (cost_of_faults old)
+      ((decoder_position new - decoder_position old) + samples)))
+      × ((IsFaultyOrCut result → ⊥) → cost_of_faults new ≡ cost_of_faults old)
+
+-- ---- where nothing is tried
+
+-- What `waits` says, whatever is known of the stream: which bytes `decode_next` asks for, or None
+-- where it tries to decode those that are there.
+pub record IsWaiting (at : ℕ) (bytes : List ℕ) (is_end : Bool) (old : FrameDecoder)
+    (result : Option NeededBytes) (new : FrameDecoder) : Type 0 where
+  pub position : decoder_position new ≡ decoder_position old
+  pub wastes_nothing : tries_wasted new ≤ tries_wasted old
+  pub charges_nothing : cost_of_faults new ≡ cost_of_faults old
+  pub tried : tried_bytes new.end ≡ tried_bytes old.end
+  pub summed : summed_bytes new.end
+      ≤ max (length (held_from at (decoder_position old) bytes)) (summed_bytes old.end)
+  pub keeps_notes : (known : Option StreamInfo) → KeepsNotes known at bytes is_end old new
+  -- `ReadOn` is right, and timely.
+  pub needs : (needed : NeededBytes) → result ≡ Some needed
+      → (needed ≡ needed_after (decoder_position old)
+      (length (held_from at (decoder_position old) bytes)))
+      × (ends_there at (decoder_position old) is_end ≡ false)
+      × ((known : Option StreamInfo)
+      → FrameIsTimely known at bytes is_end old (Ok (ReadOn needed)) new
+      × FaultIsTimely known at bytes is_end old (Ok (ReadOn needed)))
+  -- The bytes are due to be tried, or the CRC-16 was 0 after some of them.
+  pub tries : result ≡ None → ends_there at (decoder_position old) is_end ≡ false
+      → length (held_from at (decoder_position old) bytes) < 2 * tried_bytes old.end
+      → (known : Option StreamInfo) (stream : List ℕ) → StandsIn stream at bytes is_end
+      → IsRightOf known stream old
+      → IsZeroWithin (drop (decoder_position old) stream) (summed_bytes new.end)
+
 -- ---- parts of the code
 
--- The bytes are due to be tried, or there are less than twice as many as were tried last, and the
--- stream may go on.
+-- The bytes are due to be tried where the stream ends with them, or they are twice as many as were
+-- tried last.
 abbrev pub IsDue : List ℕ → Bool → FrameDecoder → Bool → Type 0
 IsDue rest ends s due =
-    due ≡ false → (ends ≡ false) × (length rest < 2 * tried_bytes s.end)
+    (due ≡ true) ↔ ((ends ≡ true) ⊎ (2 * tried_bytes s.end ≤ length rest))
 
 -- The bytes are tried if they are due; else if a frame may end in them, within the budget.
 pub record IsWorthATry (rest : List ℕ) (is_due : Bool) (old : FrameDecoder) (result : Bool)
     (new : FrameDecoder) : Type 0 where
   pub position : new.position ≡ old.position
   pub budget : new.budget ≡ old.budget
+  pub faults : new.faults ≡ old.faults
+  pub tried : tried_bytes new.end ≡ tried_bytes old.end
   pub summed : summed_bytes new.end ≤ max (length rest) (summed_bytes old.end)
   pub waits : result ≡ false → is_due ≡ false
   pub knows : (stream : Option StreamFormat) (bytes : List ℕ) → StartsWith bytes rest

@@ -36,15 +36,17 @@ use Rattle.claxon_stream.specs.FrameDecoder.{
   IsOverBudget,
   IsRightOf,
   StartsRight,
+  cost_of_faults,
   decoder_position,
   tries_wasted,
 }
 use Rattle.claxon_stream.specs.FrameEnd.{IsZeroWithin, summed_bytes}
 use Rattle.claxon_stream.specs.Held.{StandsIn, ends_there, held_from}
-use Rattle.claxon_stream.specs.Search.{Cost, FindEventIs, FitsBudget, after_bytes}
+use Rattle.claxon_stream.specs.Search.{Cost, FindEventIs, FitsBudget, after_bytes, after_work}
 use Rattle.claxon_stream.specs.declared.event.FindEvent.{FindEvent}
 use Rattle.claxon_stream.specs.declared.event.FindEvent.TheVariants.{ReadOn}
 use Rattle.claxon_stream.specs.declared.finder.FrameFinder.{FrameFinder}
+use Rattle.claxon_stream.specs.declared.frames.FrameDecoder.{FrameDecoder}
 
 -- `finder.position()`
 abbrev pub finder_position : FrameFinder → ℕ
@@ -144,6 +146,11 @@ cost_at s position = record {
   passes_over = s.has_passed_over;
 }
 
+-- Nothing is left of the budget at the position, and it is noted that a header was passed over.
+abbrev pub PassesUnread : ℕ → FrameFinder → Type 0
+PassesUnread position s =
+    (s.has_passed_over ≡ true) × (work_left ((cost_at s position).wasted) < 1)
+
 -- The decoder is at the position: it is as before if it was there, else it begins there.
 abbrev pub GoesTo : ℕ → FrameFinder → FrameFinder → Type 0
 GoesTo position old new =
@@ -157,12 +164,13 @@ pub record MovesTo (position : ℕ) (old new : FrameFinder) : Type 0 where
   pub cost : finder_cost new ≡ cost_at old position
   pub counted : counted_position new.budget ≡ max (counted_position old.budget) position
 
--- The search goes on from the position, and what it cost stays, but for what the bytes up to there
--- make good.
-pub record GoesOn (position : ℕ) (old new : FrameFinder) : Type 0 where
+-- The search goes on from the position. What it cost stays, but for what the bytes up to there make
+-- good, and what the faults of the decoder cost is added.
+pub record GoesOn (position : ℕ) (decoder : FrameDecoder) (old new : FrameFinder) : Type 0 where
   pub goes : GoesTo position old new
   pub cost :
-      finder_cost new ≡ after_bytes (position - finder_position old) (finder_cost old)
+      finder_cost new ≡ after_work (cost_of_faults decoder)
+      (after_bytes (position - finder_position old) (finder_cost old))
 
 -- The position moves there if the block has no more samples than are left of the budget; else it is
 -- noted that the header is passed over.

@@ -1,7 +1,10 @@
 -- What is noted of an answer.
-use Rattle.std.specs.Prelude.{◌≡◌, ◌+◌, ◌≤◌, ℕ, Bool, true, false, List, length, Result, Ok, Err}
+use Rattle.std.specs.Prelude.{◌≡◌, ◌+◌, ◌≤◌, ℕ, Bool, true, false, List, length, Option, Result, Ok, Err}
 use Rattle.claxon.specs.Block.{max_block_samples}
 use Rattle.claxon.specs.Errors.{Error}
+use Rattle.claxon.specs.Frame.{StreamFormat}
+use Rattle.claxon_stream.specs.Budget.{charged}
+use Rattle.claxon_stream.specs.DecodedAtStart.{SamplesAreSaid}
 use Rattle.claxon_stream.specs.FrameEnd.{EndIsNoted, StartKnows}
 use Rattle.claxon_stream.specs.declared.ending.FrameEnd.{FrameEnd}
 use Rattle.claxon_stream.specs.declared.event.Event.{Event}
@@ -26,3 +29,15 @@ IsWorkOf (Ok (Faulty fault)) is_due rest work = work ≡ 0
 IsWorkOf (Ok End) is_due rest work = work ≡ 0
 IsWorkOf (Ok (Cut at)) is_due rest work = work ≡ 0
 IsWorkOf (Err e) is_due rest work = work ≡ 0
+
+-- The work of a fault or of a cut frame: the bytes that are passed, and the samples that its header
+-- says; as far as 64 bits say it. Else none.
+abbrev pub IsWorkOfFault : Option StreamFormat → List ℕ → Result Event Error → ℕ → ℕ → Type 0
+IsWorkOfFault stream rest (Ok (Faulty fault)) moved work =
+    (samples : ℕ) × SamplesAreSaid stream rest samples × (work ≡ charged moved samples)
+IsWorkOfFault stream rest (Ok (Cut at)) moved work =
+    (samples : ℕ) × SamplesAreSaid stream rest samples × (work ≡ charged moved samples)
+IsWorkOfFault stream rest (Ok (Decoded frame)) moved work = work ≡ 0
+IsWorkOfFault stream rest (Ok End) moved work = work ≡ 0
+IsWorkOfFault stream rest (Ok (ReadOn needed)) moved work = work ≡ 0
+IsWorkOfFault stream rest (Err e) moved work = work ≡ 0

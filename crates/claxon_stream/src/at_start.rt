@@ -6,10 +6,11 @@ ghost use Rattle.claxon.specs.Cursor.{cursor_left};
 ghost use Rattle.claxon.specs.Block.{max_block_samples};
 ghost use Rattle.claxon.specs.ShownHead.{HasBitDepth};
 ghost use Rattle.claxon.specs.FrameReader.{frame_input, frame_stream, stream_with};
-ghost use Rattle.claxon_stream.specs.DecodedAtStart.{DecodedAtStart};
+ghost use Rattle.claxon_stream.specs.DecodedAtStart.{DecodedAtStart, SamplesAreSaid};
 
 use claxon::frame::{DecodedFrameResult, FrameReader};
 use claxon::metadata::StreamInfo;
+use claxon_seek::header_at_start;
 use std::io::Cursor;
 
 // The frame that the bytes begin with, and in `taken` the number of bytes of it or of its fault.
@@ -30,7 +31,7 @@ pub(crate) fn frame_at_start(
     found
 }
 
-// The number of samples, of all channels, that the header says with which the bytes begin; 0 if they begin with none.
+// The number of samples, of all channels, that the header says with which the bytes begin; 0 if none is read. A block has no more.
 pub(crate) fn samples_at_start(bytes: &[u8], known: Option<StreamInfo>) -> u64
     requires { IfSome known (λ info. HasBitDepth info) }
     ensures { result ≤ max_block_samples }
@@ -39,6 +40,21 @@ pub(crate) fn samples_at_start(bytes: &[u8], known: Option<StreamInfo>) -> u64
     match frames.read_header_or_eof() {
         Ok(Some(info)) => u64::from(info.channels) * u64::from(info.duration),
         _ => 0,
+    }
+}
+
+// The same, of each header that is there.
+pub(crate) fn samples_said(bytes: &[u8], known: Option<StreamInfo>) -> u64
+    requires { IfSome known (λ info. HasBitDepth info) }
+    ensures are_said { SamplesAreSaid (option_map stream_with known) bytes.now result }
+{
+    match header_at_start(bytes, known) {
+        Ok(Some(header)) => {
+            let info = header.info();
+            u64::from(info.channels) * u64::from(info.duration)
+        }
+        Ok(None) => 0,
+        Err(_) => 0,
     }
 }
 

@@ -6,7 +6,7 @@ ghost use Rattle.std.specs.Prelude.{◌≡◌, ◌↔◌, ◌-◌, ◌≤◌, Is
 const MAX_WASTED: u64 = 1 << 26;
 
 // How much of it each byte that is handed in, or that a search passes, makes good, so that the time is linear. By chance the CRC-16 is 0
-// at one place of 65,536: a frame of L bytes and S samples takes some (L / 2 + S) / 65,536 for each byte, which is 24 for the largest, of
+// at one place of 65,536: a frame of L bytes and S samples takes some (L + S) / 2 / 65,536 for each byte, which is 20 for the largest, of
 // eight channels of 65,535 samples of 32 bits. A header with its CRC-8 stands at one place of 2^24, which takes less than 1. So what
 // passes the budget was made to cost time, or is very much silence, with damage in each of its frames.
 const MADE_GOOD_BY_A_BYTE: u64 = 32;

@@ -1,6 +1,7 @@
 //! The next frame of a stream after damage.
 ghost use Rattle.std.specs.Prelude.{◌≡◌, ◌+◌, ◌-◌, ◌*◌, ◌<◌, ◌↔◌, IfSome, IsTrue, length, true};
 ghost use Rattle.claxon.specs.ShownHead.{HasBitDepth};
+ghost use Rattle.claxon_stream.specs.FrameDecoder.{without_faults};
 ghost use Rattle.claxon_stream.specs.FrameFinder.{read_on};
 ghost use Rattle.claxon_stream.specs.Search.{samples_of};
 
@@ -27,7 +28,7 @@ use std::alloc::Global;
 /// ```
 ///
 /// After a frame was found a `FrameDecoder` may go on at `finder.position()`. After its next fault `go_on` keeps what was charged, so that
-/// the time of all searches is linear.
+/// the time of all searches and faults is linear.
 ///
 /// In memory it is laid out as the same struct in C.
 #[repr(C)]
@@ -54,6 +55,7 @@ impl FrameFinder {
       IsNotedInVain,
       IsTriedOrPassedOver,
       MovesTo,
+      PassesUnread,
       finder_cost,
       finder_position,
     };
@@ -92,12 +94,15 @@ impl FrameFinder {
         self.decoder.is_over_budget()
     }
 
-    /// Goes on from another position, as after frames that were decoded. Bytes up to there make good what was charged.
-    pub fn go_on(&mut self, position: u64)
-        ensures { GoesOn position self.old self.new }
+    /// Goes on from another position, as after frames that this decoder answered. Bytes up to there make good what was charged. What its
+    /// faults cost is charged, so that the time stays linear where each frame that is found leads to another fault.
+    pub fn go_on(&mut self, position: u64, decoder: &mut FrameDecoder)
+        ensures goes_on { GoesOn position decoder.old self.old self.new }
+        ensures taken { decoder.new ≡ without_faults decoder.old }
     {
         self.budget = self.budget.counted_from(self.position());
         self.move_to(position);
+        self.budget.charge(decoder.take_cost_of_faults());
     }
 
     /// The next frame of the stream, by the bytes that are held: from the position `at` of the stream on, and up to its end if
@@ -137,6 +142,9 @@ impl FrameFinder {
         let end = from + held_from(bytes, at, from).len() as u64;
         self.budget = self.budget.counted_from(from);
         for position in from..end {
+            if self.passes_unread(position) {
+                continue;
+            }
             let rest = held_from(bytes, at, position);
             let samples = match header_there(rest, &known) {
                 HeaderThere::Wanted(info) => samples_of(&info),
@@ -170,6 +178,18 @@ impl FrameFinder {
             return Ok(FindEvent::NotFound);
         }
         Ok(read_on(end, 0))
+    }
+
+    // Whether each header would be passed over at the position, and that one was is noted already: so it needn't be read.
+    fn passes_unread(&self, position: u64) -> bool
+        ensures { IsTrue result → PassesUnread position self.now }
+    {
+        if !self.has_passed_over {
+            return false;
+        }
+        let mut budget = self.budget;
+        budget.make_good(position);
+        !budget.suffices_for(1)
     }
 
     // Goes to a position.

@@ -10,12 +10,14 @@ ghost use Rattle.std.specs.Prelude.{
   length,
   vec_capacity,
 };
+ghost use Rattle.std.specs.Option.{option_map};
+ghost use Rattle.claxon.specs.FrameReader.{stream_with};
 ghost use Rattle.claxon.specs.ShownHead.{HasBitDepth};
 ghost use Rattle.claxon_stream.specs.Event.{event_of, faulty, moved_by, needed_after};
-ghost use Rattle.claxon_stream.specs.Noted.{EndIsAfter, IsWorkOf};
+ghost use Rattle.claxon_stream.specs.Noted.{EndIsAfter, IsWorkOf, IsWorkOfFault};
 ghost use Rattle.claxon_stream.specs.Held.{ends_there, held_from};
 
-use crate::at_start::{frame_at_start, samples_at_start};
+use crate::at_start::{frame_at_start, samples_at_start, samples_said};
 use crate::budget::Budget;
 use crate::ending::FrameEnd;
 use crate::event::{Event, NeededBytes, StreamFault};
@@ -45,6 +47,8 @@ pub struct FrameDecoder {
     // What is known of the end of the frame at the position.
     end: FrameEnd,
     budget: Budget,
+    // What faults cost that no search was charged yet.
+    faults: u64,
 }
 
 impl FrameDecoder {
@@ -53,6 +57,7 @@ impl FrameDecoder {
       EndIsComplete,
       EventIsOfStream,
       EventIsSound,
+      FaultIsCharged,
       FaultIsComplete,
       FaultIsTimely,
       FrameIsComplete,
@@ -60,13 +65,16 @@ impl FrameDecoder {
       IsDue,
       IsFromPosition,
       IsOverBudget,
+      IsWaiting,
       IsWorthATry,
       KeepsNotes,
       ReadOnIsComplete,
       StartsRight,
       WasteIsInVain,
+      cost_of_faults,
       decoder_position,
       tries_wasted,
+      without_faults,
     };
 
     /// A decoder of the frames from this position of the stream on.
@@ -74,11 +82,13 @@ impl FrameDecoder {
         ensures position { decoder_position result ≡ position }
         ensures starts_right { StartsRight result }
         ensures wastes_nothing { tries_wasted result ≡ 0 }
+        ensures no_faults { cost_of_faults result ≡ 0 }
     {
         FrameDecoder {
             position,
             end: FrameEnd::new(),
             budget: Budget::new(position),
+            faults: 0,
         }
     }
 
@@ -90,6 +100,7 @@ impl FrameDecoder {
             position: at,
             end: FrameEnd::new(),
             budget: self.budget,
+            faults: self.faults,
         }
     }
 
@@ -105,6 +116,17 @@ impl FrameDecoder {
         ensures { IsTrue result ↔ IsOverBudget self.now }
     {
         self.budget.is_spent()
+    }
+
+    /// What the faults cost that were answered, which a search is charged: the bytes that were read, and the samples of the blocks. Then it
+    /// is 0 again.
+    pub fn take_cost_of_faults(&mut self) -> u64
+        ensures cost { result ≡ cost_of_faults self.old }
+        ensures taken { self.new ≡ without_faults self.old }
+    {
+        let cost = self.faults;
+        self.faults = 0;
+        cost
     }
 
     /// What comes next, by the bytes that are held: from the position `at` of the stream on, and up to its end if `is_end`. A frame is
@@ -146,22 +168,43 @@ impl FrameDecoder {
         ensures fault_is_timely { FaultIsTimely known at bytes.now is_end self.old result }
         ensures waste_is_in_vain { WasteIsInVain known at bytes.now is_end
             self.old result self.new }
+        ensures fault_is_charged { FaultIsCharged known at bytes.now is_end
+            self.old result self.new }
     {
+        if let Some(needed) = self.waits(bytes, at, is_end) {
+            return Ok(Event::ReadOn(needed));
+        }
         let rest = held_from(bytes, at, self.position);
         let ends = ends_there(is_end, at, self.position);
-        self.budget.make_good(at + bytes.len() as u64);
         let is_due = self.is_due(rest, ends);
-        if !self.is_worth_a_try(rest, is_due) {
-            return Ok(Event::ReadOn(needed_after(self.position, rest.len())));
-        }
         let mut taken = 0;
         let found = frame_at_start(buffer, rest, known, &mut taken);
         let event = event_of(found, self.position, rest.len(), ends);
         self.end = end_after(&event, self.end, rest);
         self.budget
             .charge(work_in_vain(&event, is_due, rest, known));
-        self.position += moved_by(&event, taken, rest.len()) as u64;
+        let moved = moved_by(&event, taken, rest.len());
+        self.faults = self
+            .faults
+            .saturating_add(work_of_fault(&event, moved, rest, known));
+        self.position += moved as u64;
         event
+    }
+
+    /// How many bytes are needed at least, where it is known without a try to decode them that no frame and no fault can be answered
+    /// yet. Then `decode_next` answers that for the same bytes. Most bytes of a frame that come one by one are asked for so.
+    pub fn waits(&mut self, bytes: &[u8], at: u64, is_end: bool) -> Option<NeededBytes>
+        requires fits { at + length bytes.now < u64.MAX }
+        ensures { IsWaiting at bytes.now is_end self.old result self.new }
+    {
+        let rest = held_from(bytes, at, self.position);
+        let ends = ends_there(is_end, at, self.position);
+        self.budget.make_good(at + bytes.len() as u64);
+        let is_due = self.is_due(rest, ends);
+        if self.is_worth_a_try(rest, is_due) {
+            return None;
+        }
+        Some(needed_after(self.position, rest.len()))
     }
 
     // Whether the bytes are tried whatever the CRC is: at the end of the stream, and where they are twice as many as were tried last.
@@ -252,16 +295,32 @@ fn end_after(event: &Result<Event>, end: FrameEnd, rest: &[u8]) -> FrameEnd
     }
 }
 
-// How much work led to no answer, where the CRC alone made the bytes worth a try: their number, and the samples that were decoded.
+// How much work led to no answer, where the CRC alone made the bytes worth a try: their number, and half of the samples, of which not all
+// were decoded.
 fn work_in_vain(event: &Result<Event>, is_due: bool, rest: &[u8], known: Option<StreamInfo>) -> u64
     requires { IfSome known (λ info. HasBitDepth info) }
     ensures { IsWorkOf event.now is_due rest.now result }
 {
     match event {
-        Ok(Event::ReadOn(_)) if !is_due => (rest.len() as u64).saturating_add(samples_at_start(
-            rest, known,
-        )),
+        Ok(Event::ReadOn(_)) if !is_due => {
+            (rest.len() as u64).saturating_add(samples_at_start(rest, known) / 2)
+        }
         _ => 0,
+    }
+}
+
+// How much work a fault or a cut frame took: the bytes that were read, and the samples of the block that its header says.
+fn work_of_fault(event: &Result<Event>, moved: usize, rest: &[u8], known: Option<StreamInfo>) -> u64
+    requires { IfSome known (λ info. HasBitDepth info) }
+    ensures { IsWorkOfFault (option_map stream_with known) rest.now event.now moved result }
+{
+    match event {
+        Ok(Event::Faulty(_)) => (moved as u64).saturating_add(samples_said(rest, known)),
+        Ok(Event::Cut(_)) => (moved as u64).saturating_add(samples_said(rest, known)),
+        Ok(Event::Decoded(_)) => 0,
+        Ok(Event::End) => 0,
+        Ok(Event::ReadOn(_)) => 0,
+        Err(_) => 0,
     }
 }
 

@@ -77,6 +77,10 @@ pub record IsRightOf (known : Option StreamInfo) (frames : List Placed)
 abbrev pub KnowsUnit : Clock → Type 0
 KnowsUnit s = (s.counted ≡ Samples) ⊎ (s.counted ≡ Blocks)
 
+-- It doesn't know it, and no frame has shown that the block size changes.
+abbrev pub NeedsFrames : Clock → Type 0
+NeedsFrames s = s.counted ≡ NotKnown
+
 -- The first n frames of these, and no others, were noted one after another.
 abbrev pub HasSeen : List Placed → ℕ → Clock → Type 0
 HasSeen frames n s =

@@ -1,4 +1,5 @@
 pub mod Clock
+pub mod Kept
 pub mod Search
 pub mod Seeker
 pub mod SeekLaws

@@ -1,13 +1,15 @@
 //! Where a block begins in time.
-ghost use Rattle.std.specs.Prelude.{◌≡◌};
+ghost use Rattle.std.specs.Prelude.{◌≡◌, ◌↔◌, IsTrue};
 ghost use Rattle.claxon_stream_seek.specs.Clock.{counted_after, one_block_size, time_after};
+
+mod kept;
 
 use claxon::frame::BlockInfo;
 use claxon::metadata::StreamInfo;
+pub use kept::KeptClock;
 
 // What the coded numbers of frames with a fixed block size count.
 #[derive(Clone, Copy, Debug)]
-#[repr(u8)]
 enum Counted {
     NotKnown,
     // Samples of each channel, as encoders wrote them before the header had a bit for a variable block size.
@@ -23,8 +25,9 @@ enum Counted {
 /// `Block.time` is the coded number of a frame, times the size of its own block where the header says that sizes are fixed and the
 /// streaminfo says that they aren't. So it is wrong of a shorter last block, of each frame where numbers count samples although that
 /// bit says otherwise, and of a stream that changes its block size. A clock knows better by two frames, one after another.
+///
+/// C keeps it as a `KeptClock`.
 #[derive(Clone, Copy, Debug)]
-#[repr(C)]
 pub struct Clock {
     // Whether a frame was noted: the last one has this coded number and so many samples of each channel, and ends there.
     has_frame: bool,
@@ -44,6 +47,7 @@ impl Clock {
       HasLast,
       IsLearnt,
       IsLearntBy,
+      NeedsFrames,
       NoteKeepsOrder,
       NoteKeepsRight,
       NoteKnowsUnit,
@@ -74,6 +78,18 @@ impl Clock {
             end: 0,
             time: 0,
             block_size,
+        }
+    }
+
+    /// Whether it isn't known what the coded numbers count. The first two frames of a stream show it, unless its block size is variable.
+    pub fn needs_frames(&self) -> bool
+        ensures { IsTrue result ↔ NeedsFrames self.now }
+    {
+        match self.counted {
+            Counted::NotKnown => true,
+            Counted::Samples => false,
+            Counted::Blocks => false,
+            Counted::VaryingBlocks => false,
         }
     }
 

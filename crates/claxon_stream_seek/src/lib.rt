@@ -8,7 +8,7 @@ mod search;
 mod seeker;
 mod sought;
 
-pub use clock::Clock;
+pub use clock::{Clock, KeptClock};
 pub use event::{SeekEvent, SoughtFrame};
 pub use laws::{not_found_is_none, seeks_agree};
-pub use seeker::Seeker;
+pub use seeker::{KeptSeeker, Seeker};

@@ -31,12 +31,12 @@ pub(crate) enum SoughtThere {
 pub(crate) struct ByteSearch {
     pub(crate) sought: Sought,
     // The first position that isn't passed.
-    position: u64,
+    pub(crate) position: u64,
     // At the position, if a frame was tried there.
-    decoder: FrameDecoder,
+    pub(crate) decoder: FrameDecoder,
     // What the headers cost that led to no frame.
-    budget: Budget,
-    has_passed_over: bool,
+    pub(crate) budget: Budget,
+    pub(crate) has_passed_over: bool,
 }
 
 impl ByteSearch {

@@ -2,6 +2,8 @@
 ghost use Rattle.std.specs.Prelude.{◌≡◌, ◌↔◌, ◌+◌, ◌<◌, ◌≤◌, IfSome, IsTrue, length};
 ghost use Rattle.claxon.specs.ShownHead.{HasBitDepth};
 
+mod kept;
+
 use crate::clock::Clock;
 use crate::event::{SeekEvent, SoughtFrame};
 use crate::search::ByteSearch;
@@ -13,6 +15,7 @@ use claxon_seek::{FoundFrame, MAX_STEPS, Span, Step, max_block_size};
 use claxon_stream::{
     Event, FrameDecoder, HeaderThere, NeededBytes, ends_there, header_there, held_from,
 };
+pub use kept::KeptSeeker;
 use std::alloc::Global;
 
 // How many bytes are asked for at once on the way to a sample: a header stands in them mostly.
@@ -30,7 +33,6 @@ const MAX_BYTES_BY_TIMES: u64 = 1 << 24;
 
 // What is done next.
 #[derive(Clone, Copy, Debug)]
-#[repr(u8)]
 enum Stage {
     // Headers between known times are read.
     Headers,
@@ -63,6 +65,8 @@ enum NextHeader {
 ///
 /// Headers between known times lead to the frame. They, their times and the length are never believed: the frame is decoded before it is
 /// answered, and where they mislead all bytes are searched, within the budget of a `FrameFinder`.
+///
+/// C keeps it as a `KeptSeeker`.
 #[derive(Clone, Copy, Debug)]
 pub struct Seeker {
     stage: Stage,
@@ -211,17 +215,21 @@ impl Seeker {
         let start = self.scanned.max(from as u64);
         let held = held_from(bytes, at, start).len() as u64;
         let end = start.saturating_add(held).min(self.span.end as u64);
-        for position in start..end {
+        let mut next = start;
+        while next < end {
+            let position = next_ff(bytes, at, next).min(end);
+            next = position.saturating_add(1);
             let rest = held_from(bytes, at, position);
             match header_there(rest, known) {
-                HeaderThere::Wanted(info) => {
+                HeaderThere::Wanted(info) if position < end => {
                     if let Some(found) = self.likely_header(position, info) {
                         return NextHeader::There(found);
                     }
                 }
-                HeaderThere::NotWanted => {}
-                HeaderThere::CutHeader if ends_there(is_end, at, position) => {}
-                HeaderThere::CutHeader => return self.needs(start, position, rest.len()),
+                HeaderThere::CutHeader if position < end && !ends_there(is_end, at, position) => {
+                    return self.needs(start, position, rest.len());
+                }
+                _ => {}
             }
         }
         let position = start.max(end);
@@ -369,6 +377,19 @@ fn within(found: Option<FoundFrame>, from: usize, end: usize) -> Option<FoundFra
         Some(_) => None,
         None => None,
     }
+}
+
+// The first position from this one on that has a byte 0xff, with which each header begins, or else that after the bytes held.
+fn next_ff(bytes: &[u8], at: u64, position: u64) -> u64
+    requires { at + length bytes.now < u64.MAX }
+    ensures { position ≤ result }
+{
+    let rest = held_from(bytes, at, position);
+    let passed = rest
+        .iter()
+        .position(|byte| *byte == 0xff)
+        .unwrap_or(rest.len());
+    position.saturating_add(passed as u64)
 }
 
 // How many bytes are asked for where a frame is likely.

@@ -8,7 +8,6 @@ use claxon::metadata::StreamInfo;
 
 // A sample of each channel, in a stream of this clock, from the first frame on.
 #[derive(Clone, Copy, Debug)]
-#[repr(C)]
 pub(crate) struct Sought {
     pub(crate) clock: Clock,
     pub(crate) sample: u64,

@@ -2,7 +2,7 @@
 //! were made by the definitions of RFC 9639, section 9.
 use claxon::metadata::StreamInfo;
 use claxon_seek::{BlockMemory, Search, find_frame};
-use claxon_stream::{FindEvent, FrameFinder};
+use claxon_stream::{Event, FindEvent, FrameDecoder, FrameFinder};
 use std::alloc::Global;
 use std::test::Fail;
 
@@ -14,6 +14,8 @@ const STREAM: [u8; 44] = [
     0xff, 0xf8, 0x69, 0x02, 0x02, 0x0f, 0x9d, 0x00, 0x03, 0xf8, 0xd0,
     0xff, 0xf8, 0x69, 0x02, 0x03, 0x0f, 0x88, 0x00, 0x04, 0x79, 0xbd,
 ];
+
+const STREAM_AT: [u64; 4] = [0, 11, 22, 33];
 
 // The first one after bytes that begin none, sync codes among them, and before two bytes.
 #[rattlefmt::skip]
@@ -258,10 +260,35 @@ fn costly_headers(rt: HostRuntime) -> Result<(), Fail> {
 #[test]
 fn goes_on(rt: HostRuntime) -> Result<(), Fail> {
     let mut finder = FrameFinder::new(0);
-    finder.go_on(12);
+    let mut frames = FrameDecoder::new(0);
+    finder.go_on(12, &mut frames);
     assert!(rt; finder.position() == 12);
     assert!(rt; finds(&mut finder, rt.alloc(), &STREAM, true, 44, &[22, 33])?);
-    finder.go_on(0);
+    finder.go_on(0, &mut frames);
     assert!(rt; finds(&mut finder, rt.alloc(), &STREAM, true, 44, &[0, 11, 22, 33])?);
+    Ok(())
+}
+
+// The faults of 128 frames of eight channels of 65,535 samples pass the budget of a search, once.
+#[test]
+fn faults_are_charged(rt: HostRuntime) -> Result<(), Fail> {
+    let mut bytes = [0; 34];
+    bytes[..8].copy_from_slice(&COSTLY[..8]);
+    let mut frames = FrameDecoder::new(0);
+    let mut faults = 0usize;
+    for _ in 0..128 {
+        frames = frames.from_position(0);
+        let event = frames.decode_next(Vec::new(rt.alloc()), &bytes, 0, true, None)?;
+        if matches!(event, Event::Faulty(_)) {
+            faults = faults.saturating_add(1);
+        }
+    }
+    assert!(rt; faults == 128);
+    for (wanted, passes_over) in [(&STREAM_AT[..0], true), (&STREAM_AT[..], false)] {
+        let mut finder = FrameFinder::new(0);
+        finder.go_on(0, &mut frames);
+        assert!(rt; finds(&mut finder, rt.alloc(), &STREAM, true, 44, wanted)?);
+        assert!(rt; finder.has_passed_over() == passes_over);
+    }
     Ok(())
 }

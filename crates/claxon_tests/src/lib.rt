@@ -1,7 +1,7 @@
 //! Tests of the decoder that cross crates: bytes and bits; sequences of metadata blocks; headers of frames; frames and whole
 //! streams, from files and over readers that give few bytes, pause and fail; runs of some 2^32 zeros; runs into writers of all
-//! kinds; command lines of `claxon_raw`; refused memory; and vectors of upstream's tests. Rows of bytes with their results are
-//! lines of `claxon_cases`.
+//! kinds; command lines of `claxon_raw`; refused memory; proved callers; and vectors of upstream's tests. Rows of bytes with
+//! their results are lines of `claxon_cases`.
 #![tactic(auto)]
 
 #[cfg(test)]
@@ -32,6 +32,8 @@ mod memory;
 mod raw_command;
 #[cfg(test)]
 mod sources;
+#[cfg(test)]
+mod uses;
 #[cfg(test)]
 mod vectors;
 #[cfg(test)]

@@ -1,7 +1,8 @@
 //! Runs into writers of all kinds.
+use claxon::Error;
 use claxon_testing::answers::{FIVES, FRAME, Fault, end_of, head, joined, two_frames};
-use claxon_testing::doubles::sinks::Sink;
-use claxon_write::run;
+use claxon_testing::doubles::sinks::{FailsAtOneWrite, Sink};
+use claxon_write::{CountingWriter, run};
 use std::alloc::Global;
 use std::io::{Cursor, ErrorKind};
 use std::test::Fail;
@@ -85,5 +86,27 @@ fn each_write_failed(rt: HostRuntime) {
             gives(rt.alloc(), &two_frames(0x58), &row, ErrorKind::Other),
             "{writes}"
         );
+    }
+}
+
+// Whether the second of three writes fails like this, and each of them and the flush after them is one call of the writer.
+fn asks_once(kind: ErrorKind) -> bool {
+    let mut sink = FailsAtOneWrite::new(1, kind);
+    let mut writer = CountingWriter::new(&mut sink);
+    let is_first = matches!(writer.write_some(b"ab"), Ok(2));
+    let is_failed = match writer.write_some(b"cd") {
+        Err(Error::IoError(cause)) => cause.kind() == kind,
+        _ => false,
+    };
+    let is_third = matches!(writer.write_some(b"ef"), Ok(2));
+    let is_flushed = writer.flush().is_ok();
+    let sink = writer.into_inner();
+    is_first && is_failed && is_third && is_flushed && sink.writes == 3 && sink.flushes == 1
+}
+
+#[test]
+fn one_write_failed(rt: HostRuntime) {
+    for kind in [ErrorKind::Other, ErrorKind::Interrupted] {
+        assert!(rt; asks_once(kind));
     }
 }

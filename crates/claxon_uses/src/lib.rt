@@ -7,8 +7,6 @@ mod frames;
 mod samples;
 mod streams;
 mod tags;
-#[cfg(test)]
-mod tests;
 
 pub use blocks::{block_peak, peak};
 pub use crc_pair::read_pair_with_crc;

@@ -1,3 +1,4 @@
 pub mod Verdict
 pub mod Tally
 pub mod Container
+pub mod Options

@@ -91,10 +91,6 @@ module _ {A : Type 0} (old : KeptPlaces A) (one place : Place) (some : old.place
       omega (arith, l, less)
   more_few false items added stays few = subst (λ (z : List Place). length z ≤ old.more) (sym (stays refl)) few
 
--- they are kept so
-pub kept_so : {A : Type 0} (all : List Place) (kept : KeptPlaces A) → Keeps all kept → AreKept all kept.places.first kept.places.more.items kept.places.left_out
-kept_so all kept k = k.are_kept
-
 -- no number is 0
 pub zero_or : (o : Option ℕ) → unwrap_or o 0 ≡ or_zero o
 zero_or None = refl

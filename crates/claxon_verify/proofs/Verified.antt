@@ -4,6 +4,7 @@ use Rattle.std.proofs.Common.{◌≡◌, ◌⊎◌, ◌<◌, ◌≤◌, ◌+◌,
 use Rattle.std.specs.Prelude.{Bool, bytes_eq, map, IsTrue, IsOkAnd, Option, None, Some, Result, Ok, Err, ◌↔◌, ◌≢◌}
 use Rattle.std.specs.Bool.{Decides}
 use Rattle.std.specs.List.{sum_by}
+use Rattle.std.proofs.lemmas.List.{append_cancel_right}
 use Rattle.std.proofs.lemmas.List.Sums.{sum_by-cons}
 use Rattle.std.proofs.lemmas.Bool.{false≢true}
 use Rattle.std.proofs.lemmas.Slice.Eq.{bytes_eq-Decides}
@@ -17,6 +18,7 @@ use Rattle.claxon.specs.FrameReader.{HeaderOfLargerBlock, stream_with}
 use Rattle.claxon.specs.Gives.{Consumes, GivesOrOutOfMemory, IsFaultOf, ReadFailedIn, ReadFailedOrRemaining}
 use Rattle.claxon.specs.MetadataBlock.{HasBounds, info_view, or_zero}
 use Rattle.claxon.specs.Prefix.{BeginsWith}
+use Rattle.claxon.specs.Promises.{HasNeither}
 use Rattle.claxon.specs.read.Reading.{Reading, Done, Faulty, Incomplete}
 use Rattle.claxon.specs.SampleRuns.{lent}
 use Rattle.claxon.specs.Source.{Source}
@@ -41,13 +43,34 @@ use Rattle.claxon_verify.specs.declared.report.Place.{Place}
 use Rattle.claxon_verify.specs.declared.report.Report.{Report}
 use Rattle.claxon_verify.specs.declared.BytesRead.{BytesRead}
 use Rattle.claxon_verify.specs.declared.walk.Walk.{Walk}
-use Rattle.claxon_verify.specs.StreamHead.{FoundHead, HeadNeedsMemory, OutOfMemoryOnlyWhere, found_head_at, found_head_view}
+use Rattle.claxon_verify.specs.StreamHead.{FoundHead, FoundHeadCode, FoundHeadFault, HeadNeedsMemory, OutOfMemoryOnlyWhere, found_head_at, found_head_view}
 use Rattle.claxon_verify.specs.declared.report.UnsupportedBlock.{UnsupportedBlock}
 use Rattle.claxon_input.proofs.Promises.{fault_is}
+use Rattle.claxon_verify.proofs.FoundHeads.{Reads-found_head}
 use Rattle.claxon_verify.proofs.FramesAndFaults.{frames_of_all, not_cut, not_too_many, parts_front, same_answer, same_counts}
 use Rattle.claxon_verify.proofs.RightPlaces.{none_is_right, right_has_none}
 use Rattle.claxon_verify.proofs.Scanning.{found_from}
 use Rattle.claxon_verify.proofs.SupportedHeads.{head_found, head_supported}
+
+-- ---- heads and their faults, and what is read
+
+head_read : (s : List ℕ) (head : FoundHead) (front bytes : List ℕ) → FoundHeadCode head front → s ≡ front ++ bytes → found_head_at s ≡ Done head bytes
+head_read s head front bytes code joined = ap found_head_at joined ∙ Reads-found_head.again head front bytes code
+
+head_code : (s : List ℕ) (head : FoundHead) (front bytes : List ℕ) → found_head_at s ≡ Done head bytes → s ≡ front ++ bytes → FoundHeadCode head front
+head_code s head front bytes is joined = let k = Reads-found_head.takes s head bytes is in subst (λ (t : List ℕ). FoundHeadCode head t) (append_cancel_right k.0 front bytes (sym k.2 ∙ joined)) k.1
+
+fault_read : (s : List ℕ) (f : Fault) (at : BeginsWith (FoundHeadFault f) s) → found_head_at s ≡ Faulty f at.1
+fault_read s f at = ap found_head_at at.3 ∙ Reads-found_head.bad_again f at.0 at.1 at.2
+
+fault_begins : (s : List ℕ) (f : Fault) (rest : List ℕ) → found_head_at s ≡ Faulty f rest → BeginsWith (FoundHeadFault f) s
+fault_begins s f rest is = let k = Reads-found_head.bad s f rest is in (k.0, rest, k.1, k.2)
+
+has_neither : (s : List ℕ) → found_head_at s ≡ Incomplete → HasNeither FoundHeadCode FoundHeadFault s
+has_neither s is = record {
+  no_code = λ head front bytes code joined. let p : Incomplete ≡ Done head bytes = sym is ∙ head_read s head front bytes code joined in cc;
+  no_fault = λ f front rest bad joined. let p : Incomplete ≡ Faulty f rest = sym is ∙ fault_read s f (front, rest, bad, joined) in cc;
+}
 
 -- ---- what was counted, as said of the whole stream
 
@@ -186,7 +209,7 @@ right_stream {failed = failed} computes_md5 s report v is_right =
     let k = frames_of_all stream c.parts v.bytes c.rest c.parts_are right.1 in
     let samples : report.info.samples ≡ info.samples = ap (λ (i : Streaminfo). i.samples) v.info in
     let none : v.head.unsupported ≡ None = sym v.unsupported ∙ answer.0 in
-    let head = head_supported info s v.bytes (v.head_is ∙ ap (λ (o : Option UnsupportedBlock). Done (record { info = info; unsupported = o }) v.bytes) none) in
+    let head = head_supported info s v.bytes (head_read s v.head v.front v.bytes v.code v.joined ∙ ap (λ (o : Option UnsupportedBlock). Done (record { info = info; unsupported = o }) v.bytes) none) in
     record {
       head = record { info = info; comment = head.0 };
       front = head.1;
@@ -249,7 +272,7 @@ module _ (computes_md5 : Bool) (s : List ℕ) (r : IsRightStream computes_md5 s)
           head = record { info = r.head.info; unsupported = None };
           front = r.front;
           bytes = r.bytes;
-          head_is = ap found_head_at r.joined ∙ head_found r.head r.front r.bytes r.code;
+          code = head_code (r.front ++ r.bytes) (record { info = r.head.info; unsupported = None }) r.front r.bytes (head_found r.head r.front r.bytes r.code) refl;
           joined = r.joined;
           info = refl;
           unsupported = refl;
@@ -368,13 +391,13 @@ module _ (a m : State ℕ) where
     right_complete = right_complete {A = B} computes_md5 a (Err e) m all;
     fault = elim (refused e gives) [
       | inl n ↦ inl n
-      | inr (inl io) ↦ inr (inl (io.0, λ known. (io.1.known known).why))
-      | inr (inr k) ↦ inr (inr (λ known. let f = fault_is e (found_head_at a.remaining) m.remaining (k.known known).is in inr (f.0, m.remaining, f.1, f.2)))
+      | inr (inl io) ↦ inr (inl (io.0, λ known. elim (io.1.known known).why [ inl p ↦ inl (has_neither a.remaining p) | inr x ↦ inr x ]))
+      | inr (inr k) ↦ inr (inr (λ known. let f = fault_is e (found_head_at a.remaining) m.remaining (k.known known).is in inr (f.0, f.1, fault_begins a.remaining f.0 m.remaining f.2)))
     ];
-    named = λ f rest known is. elim (refused e gives) [
+    named = λ f known at. elim (refused e gives) [
       | inl n ↦ inr (inl (ap (λ (z : Error). Err z) n))
-      | inr (inl io) ↦ elim (io.1.known known).why [ inl p ↦ absurd (let q : Incomplete ≡ Faulty f rest = sym p ∙ is in cc) | inr x ↦ inr (inr x) ]
-      | inr (inr k) ↦ inl (one_named e f rest m.remaining (found_head_at a.remaining) (k.known known).is is)
+      | inr (inl io) ↦ elim (io.1.known known).why [ inl p ↦ absurd ((has_neither a.remaining p).no_fault f at.0 at.1 at.2 at.3) | inr x ↦ inr (inr x) ]
+      | inr (inr k) ↦ inl (one_named e f at.1 m.remaining (found_head_at a.remaining) (k.known known).is (fault_read a.remaining f at))
     ];
     memory = λ n known. inl (memory (same_out_of_memory e n) known);
   }
@@ -382,8 +405,8 @@ module _ (a m : State ℕ) where
       all : VerifyIsComplete {A = B} computes_md5 a (Err e) m
       all report known v can = elim (refused e gives) [
         | inl n ↦ inr (inl (ap (λ (z : Error). Err z) n))
-        | inr (inl io) ↦ elim (io.1.known known).why [ inl p ↦ absurd (let q : Incomplete ≡ Done v.head v.bytes = sym p ∙ v.head_is in cc) | inr x ↦ inr (inr x) ]
-        | inr (inr k) ↦ absurd (not_done e v.head v.bytes m.remaining (found_head_at a.remaining) (k.known known).is v.head_is)
+        | inr (inl io) ↦ elim (io.1.known known).why [ inl p ↦ absurd ((has_neither a.remaining p).no_code v.head v.front v.bytes v.code v.joined) | inr x ↦ inr (inr x) ]
+        | inr (inr k) ↦ absurd (not_done e v.head v.bytes m.remaining (found_head_at a.remaining) (k.known known).is (head_read a.remaining v.head v.front v.bytes v.code v.joined))
       ]
 
 -- ---- a head was read
@@ -413,22 +436,22 @@ module _ {a m : State ℕ} (b : State ℕ) {head : FoundHead} {stream : Option S
   failed_since f = elim f [ inl n ↦ inl (λ e. n (e ∙ sym h.errors)) | inr n ↦ inr (λ e. n.0 (e ∙ sym h.empty_reads), n.1) ]
 
   -- any head that the bytes begin with is the one that was read
-  same_start : (known : RemainingIsKnown a) (other : FoundHead) (front bytes : List ℕ) → found_head_at a.remaining ≡ Done other bytes → a.remaining ≡ front ++ bytes → (head ≡ other) × (m.remaining ≡ bytes) × (length (h.is known).0 ≡ length front)
-  same_start known other front bytes is joined =
+  same_start : (known : RemainingIsKnown a) (other : FoundHead) (front bytes : List ℕ) → FoundHeadCode other front → a.remaining ≡ front ++ bytes → (head ≡ other) × (m.remaining ≡ bytes) × (length (h.is known).0 ≡ length front)
+  same_start known other front bytes code joined =
       let s = h.is known in
-      let same : Done head m.remaining ≡ Done other bytes = sym s.1 ∙ is in
+      let same : Done head m.remaining ≡ Done other bytes = sym s.1 ∙ head_read a.remaining other front bytes code joined in
       let left : m.remaining ≡ bytes = cc in
       let l : length s.0 + length m.remaining ≡ length front + length bytes = sym (length-append s.0 m.remaining) ∙ ap length (sym s.2 ∙ joined) ∙ length-append front bytes in
       let n : length m.remaining ≡ length bytes = ap length left in
       (cc, left, omega arith)
 
-  no_fault : (known : RemainingIsKnown a) (f : Fault) (rest : List ℕ) → found_head_at a.remaining ≡ Faulty f rest → ⊥
-  no_fault known f rest is = let s = h.is known in let same : Done head m.remaining ≡ Faulty f rest = sym s.1 ∙ is in cc
+  no_fault : (known : RemainingIsKnown a) (f : Fault) → BeginsWith (FoundHeadFault f) a.remaining → ⊥
+  no_fault known f at = let s = h.is known in let same : Done head m.remaining ≡ Faulty f at.1 = sym s.1 ∙ fault_read a.remaining f at in cc
 
   -- what a report says, of this head
   as_counted : (known : RemainingIsKnown a) (computes_md5 : Bool) (report : ReportValue) (v : IsVerified ⊥ computes_md5 a.remaining report) → (c : Counted ⊥ stream head.info (length (h.is known).0) m.remaining report.counts) × (c.parts ≡ v.counted.parts)
   as_counted known computes_md5 report v =
-      let q = same_start known v.head v.front v.bytes v.head_is v.joined in
+      let q = same_start known v.head v.front v.bytes v.code v.joined in
       let n : ℕ = length (h.is known).0 in
       let of_stream : Some (stream_of v.head.info) ≡ stream = sym (h.stream_is ∙ ap (λ (z : FoundHead). Some (stream_of z.info)) q.0) in
       let of_info : v.head.info ≡ head.info = ap (λ (z : FoundHead). z.info) (sym q.0) in
@@ -443,10 +466,12 @@ module _ {a m : State ℕ} (b : State ℕ) {head : FoundHead} {stream : Option S
       let s = h.is known in
       record {
         head = head;
+        front = s.0;
         bytes = m.remaining;
         parts = parts;
         left = left;
-        head_is = s.1;
+        code = head_code a.remaining head s.0 m.remaining s.1 s.2;
+        joined = s.2;
         parts_are = subst (λ (z : Option StreamFormat). FramesAndFaults z m.remaining parts left) h.stream_is p;
         what = subst (λ (z : Option StreamFormat). P z parts left) h.stream_is q;
       }
@@ -493,7 +518,7 @@ module _ {a m : State ℕ} (b : State ℕ) {head : FoundHead} {stream : Option S
             head = head;
             front = s.0;
             bytes = m.remaining;
-            head_is = s.1;
+            code = head_code a.remaining head s.0 m.remaining s.1 s.2;
             joined = s.2;
             info = view_is;
             unsupported = unsupported_is;
@@ -507,7 +532,7 @@ module _ {a m : State ℕ} (b : State ℕ) {head : FoundHead} {stream : Option S
       complete other known v can =
           let j = judged known in
           let c = as_counted known computes_md5 other v in
-          let q = same_start known v.head v.front v.bytes v.head_is v.joined in
+          let q = same_start known v.head v.front v.bytes v.code v.joined in
           elim (same_counts stream h.bit_depth head.info (length (h.is known).0) m.remaining (report_view report).counts other.counts j.0 c.0) [
             | inr f ↦ inr (inr f)
             | inl same ↦ inl (
@@ -531,14 +556,11 @@ module _ {a m : State ℕ} (b : State ℕ) {head : FoundHead} {stream : Option S
           ]
 
       -- the places of the report are those that were found
-      pub counted_places : (more : ℕ) → length report.found.places.more.items ≤ more → PlacesAreCounted more computes_md5 a (Ok report) b
-      counted_places more few = (
-        few,
-        λ known.
-            let v = verified known in
-            let k = v.counted.kept in
-            (v, counts_all report.found.places.first report.found.places.more.items k.others _ report.found.places.left_out k.are k.left_out_is),
-      )
+      pub counted_places : PlacesAreCounted computes_md5 a (Ok report) b
+      counted_places known =
+          let v = verified known in
+          let k = v.counted.kept in
+          (v, counts_all report.found.places.first report.found.places.more.items k.others _ report.found.places.left_out k.are k.left_out_is)
         where
           counts_all : (first : Option Place) (more others all : List Place) (left : ℕ) → all ≡ list_of first ++ (more ++ others) → left ≡ length others % 2 ^ 64 → (length (list_of first ++ more) + left) % 2 ^ 64 ≡ length all % 2 ^ 64
           counts_all first more others all left e is =
@@ -553,7 +575,7 @@ module _ {a m : State ℕ} (b : State ℕ) {head : FoundHead} {stream : Option S
         right = right_sound computes_md5 a (Ok report) b verified;
         right_complete = right_complete computes_md5 a (Ok report) b complete;
         fault = tt;
-        named = λ f rest known is. absurd (no_fault known f rest is);
+        named = λ f known at. absurd (no_fault known f at);
         memory = λ n known. absurd (not_out_of_memory report n);
       }
 
@@ -568,7 +590,7 @@ module _ {a m : State ℕ} (b : State ℕ) {head : FoundHead} {stream : Option S
         | inl n ↦ inl n.0
         | inr n ↦ inr (inr (λ known. let p = n.1 (h.known known) in inl (n.0, has_frames_and_faults known (λ z parts left. AreTooMany parts) p.0 p.1 p.2 p.3)))
       ];
-      named = λ f rest known is. absurd (no_fault known f rest is);
+      named = λ f known at. absurd (no_fault known f at);
       memory = λ n known. inr (elim stops [
         | inl k ↦ (let p = k.1 (h.known known) in has_frames_and_faults known (λ z parts left. BeginsWith (HeaderOfLargerBlock z 0) left) p.0 p.1 p.2 p.3)
         | inr k ↦ absurd (let is : e ≡ OutOfMemory = cc in subst IsTooMany is k.0)
@@ -609,9 +631,9 @@ module _ {R : Type 0} (source : R → Source ℕ) (input : MutBor R) (x y : Runn
         memory = h.memory;
       })
 
-  pub places_through : {A : Type 0} (more : ℕ) (computes_md5 : Bool) (result : Result (Report A) Error) → PlacesAreCounted more computes_md5 (counted_bytes (lent source) x) result (counted_bytes (lent source) y) → PlacesAreCounted more computes_md5 (bytes_in source input.now) result (bytes_in source (running_inner y).now)
+  pub places_through : {A : Type 0} (computes_md5 : Bool) (result : Result (Report A) Error) → PlacesAreCounted computes_md5 (counted_bytes (lent source) x) result (counted_bytes (lent source) y) → PlacesAreCounted computes_md5 (bytes_in source input.now) result (bytes_in source (running_inner y).now)
   unfolding bytes_in
-  places_through more computes_md5 result h = subst (λ (z : MutBor R). PlacesAreCounted more computes_md5 (bytes_in source z.now) result (bytes_in source (running_inner y).now)) at h
+  places_through computes_md5 result h = subst (λ (z : MutBor R). PlacesAreCounted computes_md5 (bytes_in source z.now) result (bytes_in source (running_inner y).now)) at h
 
 -- as many are kept as are wanted
 pub few_kept : {kept all wanted given : ℕ} → given ≡ wanted → kept ≤ wanted → (kept ≤ given → all ≤ given) → all ≤ wanted

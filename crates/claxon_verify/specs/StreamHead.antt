@@ -77,7 +77,6 @@ use Rattle.claxon.specs.read.Reading.{
   Faulty,
   Incomplete,
   Reading,
-  Reads,
   and_then,
   bind,
   done,
@@ -306,10 +305,6 @@ after_first_found is_last _ = fails StreaminfoMissing
 unfoldable pub found_head_at : List ℕ → Reading ℕ FoundHead
 found_head_at =
     and_then marker_at (λ m. and_then found_block_at (λ b. after_first_found b.is_last b.content))
-
--- The reader accepts exactly the codes of heads, and reports exactly their faults.
-abbrev pub FoundHeadReads : Type 0
-FoundHeadReads = Reads ℕ FoundHead found_head_at FoundHeadCode FoundHeadFault
 
 -- ---- what the calls return
 

@@ -43,12 +43,11 @@ use Rattle.claxon.specs.FrameReader.{HeaderOfLargerBlock}
 use Rattle.claxon.specs.Gives.{ReadFailedIn}
 use Rattle.claxon.specs.MetadataBlock.{info_view}
 use Rattle.claxon.specs.Prefix.{BeginsWith}
-use Rattle.claxon.specs.Promises.{IsOutOfMemory}
+use Rattle.claxon.specs.Promises.{HasNeither, IsOutOfMemory}
 use Rattle.claxon.specs.Source.{Source}
 use Rattle.claxon.specs.State.{State, bytes_in, RemainingIsKnown}
 use Rattle.claxon.specs.Streaminfo.{Streaminfo}
 use Rattle.claxon.specs.Streams.{stream_of}
-use Rattle.claxon.specs.read.Reading.{Done, Faulty, Incomplete}
 use Rattle.claxon.specs.Errors.{Error}
 use Rattle.claxon.specs.Errors.TheVariants.{OutOfMemory, Unsupported}
 use Rattle.claxon.specs.RunningReader.{running_source, running_value}
@@ -56,7 +55,6 @@ use Rattle.claxon.specs.RunningReaders.{RunningReader}
 use Rattle.claxon_blocks.specs.Frames.{Is32BitFault, IsNotWhole}
 use Rattle.claxon_blocks.specs.Md5Verdict.{IsMd5Verdict}
 use Rattle.claxon_verify.specs.RightStream.{
-  AreInOrder,
   IsRightStream,
   FitsBitDepth,
   bytes_of_frames,
@@ -64,7 +62,12 @@ use Rattle.claxon_verify.specs.RightStream.{
 }
 use Rattle.claxon_verify.specs.Kept.{AreKept}
 use Rattle.claxon_verify.specs.Places.{FoundPart, list_of, places_of}
-use Rattle.claxon_verify.specs.StreamHead.{FoundHead, HeadNeedsMemory, found_head_at}
+use Rattle.claxon_verify.specs.StreamHead.{
+  FoundHead,
+  FoundHeadCode,
+  FoundHeadFault,
+  HeadNeedsMemory,
+}
 use Rattle.claxon_blocks.specs.declared.frames.FrameError.{FrameError}
 use Rattle.claxon_verify.specs.declared.due.FoundFrame.{FoundFrame}
 use Rattle.claxon_command_line.specs.declared.progress.Progress.{Progress}
@@ -192,10 +195,6 @@ LastFound true start rest found =
     (here : FoundPart) × (e : FrameError) × (found ≡ here ∷ []) × (here.start ≡ start % 2 ^ 64)
     × (here.what ≡ Err e) × IsIo e.error × (IsTrue e.is_32_bit ↔ Is32BitFault rest e.error)
 
--- There are just frames, in order.
-abbrev pub AreRight : Streaminfo → List FrameOrFault → Type 0
-AreRight info parts = (sum_by fault_count_of parts ≡ 0) × AreInOrder info (frames_of parts)
-
 -- what was counted: frames, samples of each channel; the places that are kept and how many are left
 -- out; and the block sizes, where a fixed one changes
 pub record Counts : Type 0 where
@@ -300,7 +299,7 @@ pub record IsVerified (failed : Type 0) (computes_md5 : Bool) (s : List ℕ) (re
   pub head : FoundHead
   pub front : List ℕ
   pub bytes : List ℕ
-  pub head_is : found_head_at s ≡ Done head bytes
+  pub code : FoundHeadCode head front
   pub joined : s ≡ front ++ bytes
   pub info : report.info ≡ head.info
   pub unsupported : report.unsupported ≡ head.unsupported
@@ -314,10 +313,12 @@ pub record IsVerified (failed : Type 0) (computes_md5 : Bool) (s : List ℕ) (re
 pub record HasFramesAndFaults (s : List ℕ)
     (P : Option StreamFormat → List FrameOrFault → List ℕ → Type 0) : Type 0 where
   pub head : FoundHead
+  pub front : List ℕ
   pub bytes : List ℕ
   pub parts : List FrameOrFault
   pub left : List ℕ
-  pub head_is : found_head_at s ≡ Done head bytes
+  pub code : FoundHeadCode head front
+  pub joined : s ≡ front ++ bytes
   pub parts_are : FramesAndFaults (Some (stream_of head.info)) bytes parts left
   pub what : P (Some (stream_of head.info)) parts left
 
@@ -409,23 +410,22 @@ module _ {A : Type 0} (old : State ℕ) (result : Result (Report A) Error) (new 
   abbrev pub IsExcused : Type 0
   IsExcused = IsOutOfMemory result ⊎ ReadFailedIn old new
 
-  -- An Err is `OutOfMemory`; an `IoError` where the bytes end inside a head, or the source failed;
-  -- or it says that there are more frames and faults than can be counted, or names the fault of a
-  -- head, and so it is.
+  -- An Err is `OutOfMemory`; an `IoError` where the bytes begin with neither a head nor a fault of
+  -- one, or the source failed; or it says that there are more frames and faults than can be
+  -- counted, or names a fault of a head, and so it is.
   abbrev pub VerifyFaultIsSound : Type 0
   VerifyFaultIsSound =
       IfErr result (λ e. (e ≡ OutOfMemory) ⊎ ((IsIo e × (RemainingIsKnown old
-      → (found_head_at old.remaining ≡ Incomplete) ⊎ ReadFailedIn old new))
+      → HasNeither FoundHeadCode FoundHeadFault old.remaining ⊎ ReadFailedIn old new))
       ⊎ (RemainingIsKnown old
       → (IsTooMany e × HasFramesAndFaults old.remaining (λ stream parts left. AreTooMany parts))
-      ⊎ ((f : Fault) × (rest : List ℕ) × IsFault f e
-      × (found_head_at old.remaining ≡ Faulty f rest)))))
+      ⊎ ((f : Fault) × IsFault f e × BeginsWith (FoundHeadFault f) old.remaining))))
 
   -- A fault of a head that they begin with is named, or memory or the source failed.
   abbrev pub VerifyHeadFaultIsComplete : Type 0
   VerifyHeadFaultIsComplete =
-      (f : Fault) (rest : List ℕ) → RemainingIsKnown old
-      → found_head_at old.remaining ≡ Faulty f rest → IsErrAnd result (IsFault f) ⊎ IsExcused
+      (f : Fault) → RemainingIsKnown old → BeginsWith (FoundHeadFault f) old.remaining
+      → IsErrAnd result (IsFault f) ⊎ IsExcused
 
   -- `OutOfMemory` is returned only after the header of a metadata block, or of a frame.
   abbrev pub VerifyOutOfMemoryAfterHeader : Type 0
@@ -474,14 +474,17 @@ module _ {A : Type 0} (computes_md5 : Bool) (old : State ℕ) (result : Result (
     pub named : VerifyHeadFaultIsComplete old result new
     pub memory : VerifyOutOfMemoryAfterHeader old result new
 
--- No more places are kept after the first, and with those that are left out they are all.
-abbrev pub PlacesAreCounted : {A : Type 0} → ℕ → Bool → State ℕ → Result (Report A) Error
-    → State ℕ → Type 0
-PlacesAreCounted more computes_md5 old result new =
-    IfOk result (λ report. (length report.found.places.more.items ≤ more)
-    × (RemainingIsKnown old → (verified : IsVerified (ReadFailedIn old new) computes_md5
-    old.remaining (report_view report)) × (place_count report.found.places % 2 ^ 64
-    ≡ length (all_places verified.counted) % 2 ^ 64)))
+-- With those that are left out the places are all.
+abbrev pub PlacesAreCounted : {A : Type 0} → Bool → State ℕ → Result (Report A) Error → State ℕ
+    → Type 0
+PlacesAreCounted computes_md5 old result new =
+    IfOk result (λ report. RemainingIsKnown old
+    → (verified : IsVerified (ReadFailedIn old new) computes_md5 old.remaining (report_view report))
+    × (place_count report.found.places % 2 ^ 64 ≡ length (all_places verified.counted) % 2 ^ 64))
+
+-- No more places are kept after the first.
+abbrev pub KeepsAtMost : {A : Type 0} → ℕ → Result (Report A) Error → Type 0
+KeepsAtMost more result = IfOk result (λ report. length report.found.places.more.items ≤ more)
 
 -- Nothing is written where the line has no label, or the streaminfo doesn't say how many samples
 -- there are.

@@ -13,7 +13,6 @@ ghost use Rattle.claxon_verify.specs.StreamHead.{
   FoundHeadFaultIsSound,
   FoundHeadIsComplete,
   FoundHeadIsSound,
-  FoundHeadReads,
   HeadNeedsMemory,
   IsInfoOf,
   IsErrorOfBytes,
@@ -332,8 +331,3 @@ fn unsupported_by(error: &Error) -> Option<UnsupportedBlock>
         _ => None,
     }
 }
-
-/// The reader of heads that clauses cite accepts exactly their codes, and reports exactly their faults.
-pub fn found_head_reads()
-    ensures found_head_reads { FoundHeadReads }
-{}

@@ -10,6 +10,7 @@ ghost use Rattle.claxon_command_line.specs.Progress.{StaysQuiet};
 ghost use Rattle.claxon_verify.specs.Kept.{AreKept, Keeps};
 ghost use Rattle.claxon_verify.specs.Places.{places_at};
 ghost use Rattle.claxon_verify.specs.Verify.{
+  KeepsAtMost,
   NothingIsWrong,
   PlacesAreCounted,
   RightIsComplete,
@@ -39,7 +40,6 @@ use claxon_blocks::frames::read_frame;
 use claxon_blocks::md5_verdict::{Md5Verdict, computed_md5, judge_md5};
 use claxon_command_line::progress::Progress;
 use claxon_md5::Md5;
-pub use head::found_head_reads;
 use head::read_head;
 use std::alloc::Allocator;
 use std::io::Write;
@@ -110,8 +110,9 @@ pub fn verify<R: ReadBytes, A: Allocator + Copy, E: Write>(
         (bytes_in R.source input.new) }
     ensures right_is_complete { RightIsComplete computes_md5 (bytes_in R.source input.old) result
         (bytes_in R.source input.new) }
-    ensures places_are_counted { PlacesAreCounted more computes_md5 (bytes_in R.source input.old)
-        result (bytes_in R.source input.new) }
+    ensures places_are_counted { PlacesAreCounted computes_md5 (bytes_in R.source input.old) result
+        (bytes_in R.source input.new) }
+    ensures keeps_at_most { KeepsAtMost more result }
     ensures fault_is_sound { VerifyFaultIsSound (bytes_in R.source input.old) result
         (bytes_in R.source input.new) }
     ensures head_fault_is_complete { VerifyHeadFaultIsComplete (bytes_in R.source input.old) result
@@ -133,8 +134,9 @@ fn verify_exact<R: ReadBytes, A: Allocator + Copy, E: Write>(
 ) -> Result<Report<A>>
     ensures promises { VerifyPromises computes_md5 (bytes_in R.source input.old) result
         (bytes_in R.source input.new) }
-    ensures places_are_counted { PlacesAreCounted more computes_md5 (bytes_in R.source input.old)
-        result (bytes_in R.source input.new) }
+    ensures places_are_counted { PlacesAreCounted computes_md5 (bytes_in R.source input.old) result
+        (bytes_in R.source input.new) }
+    ensures keeps_at_most { KeepsAtMost more result }
     ensures is_quiet { VerifyIsQuiet result progress.old progress.new }
 {
     let mut input = RunningReader::new(input);
@@ -152,8 +154,9 @@ fn verify_counted<R: ReadBytes, A: Allocator + Copy, E: Write>(
     requires { position_of input.old ≡ 0 }
     ensures promises { VerifyPromises computes_md5 (counted_bytes R.source input.old) result
         (counted_bytes R.source input.new) }
-    ensures places_are_counted { PlacesAreCounted more computes_md5
-        (counted_bytes R.source input.old) result (counted_bytes R.source input.new) }
+    ensures places_are_counted { PlacesAreCounted computes_md5 (counted_bytes R.source input.old)
+        result (counted_bytes R.source input.new) }
+    ensures keeps_at_most { KeepsAtMost more result }
     ensures is_quiet { VerifyIsQuiet result progress.old progress.new }
     ensures loans { (counted_bytes R.source input.new).source.loans
         ≡ (counted_bytes R.source input.old).source.loans }

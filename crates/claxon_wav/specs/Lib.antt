@@ -8,3 +8,4 @@ pub mod AnnouncedSize
 pub mod Conversion
 pub mod Plan
 pub mod WavError
+pub mod Mismatch

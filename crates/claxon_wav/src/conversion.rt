@@ -18,6 +18,7 @@ use crate::header::MAX_HEADER_SIZE;
 use crate::plan::Plan;
 use crate::writer::WavWriter;
 use claxon::FlacReader;
+use claxon::metadata::StreamInfo;
 use claxon_blocks::md5_verdict::{Md5Verdict, judge_md5};
 use claxon_command_line::progress::Progress;
 use claxon_md5::Md5;
@@ -25,11 +26,44 @@ use std::alloc::Global;
 use std::io::{Read, Seek, Write};
 
 /// What was converted.
+#[derive(Clone, Copy)]
 pub struct Conversion {
     /// The number of samples per channel.
     pub samples: u32,
     /// What became of their MD5 sum.
     pub md5: Md5Verdict,
+}
+
+/// What the streaminfo says otherwise than a conversion found.
+#[derive(Clone, Copy)]
+pub enum Mismatch {
+    /// The number of samples per channel: this one.
+    Samples(u64),
+    /// The MD5 sum of the samples.
+    Md5,
+}
+
+impl Conversion {
+    ghost use Rattle.claxon_wav.specs.Mismatch.{md5_mismatch, mismatch_of};
+
+    /// What the streaminfo says otherwise. Another number of samples goes before another MD5 sum.
+    pub fn mismatch(&self, info: &StreamInfo) -> Option<Mismatch>
+        ensures { result ≡ mismatch_of info.now.samples self.now }
+    {
+        match info.samples {
+            Some(known) if known != u64::from(self.samples) => Some(Mismatch::Samples(known)),
+            _ => self.md5_mismatch(),
+        }
+    }
+
+    fn md5_mismatch(&self) -> Option<Mismatch>
+        ensures { result ≡ md5_mismatch self.now.md5 }
+    {
+        match self.md5 {
+            Md5Verdict::Wrong => Some(Mismatch::Md5),
+            _ => None,
+        }
+    }
 }
 
 /// Writes a stream to a file, whose header is corrected at the end where it isn't right.

@@ -10,7 +10,7 @@ mod samples;
 mod writer;
 
 pub use blocks::{convert, convert_to_stream};
-pub use conversion::{Conversion, write_file, write_stream};
+pub use conversion::{Conversion, Mismatch, write_file, write_stream};
 pub use error::{Error, Result};
 pub use header::{Layout, MAX_DATA_SIZE, MAX_HEADER_SIZE};
 pub use plan::Plan;

@@ -13,7 +13,7 @@ from . import tables
 from .batch import Row, unread_row
 from .finding import Found, Inodes, is_missing
 from .reading import open_to_read
-from .tables import SHOWN, STATE, path_text
+from .tables import NOT_RIGHT, SHOWN, STATE, path_text
 
 COLUMNS = tables.COLUMNS
 
@@ -31,6 +31,9 @@ _HISTORY_VALUES = operator.itemgetter(0, 3, 1, 2, 6, 15)
 
 # Paths are bytes, for which the module would look for an adapter each time, in vain.
 sqlite3.register_adapter(bytes, bytes)
+
+# What is missing, and what is said of folders.
+_IS_NOT_THERE = "(missing IS NOT NULL OR substr(path, -1) = x'2f')"
 
 # How long a write waits for another program that reads the results, in seconds.
 _PATIENCE = 600
@@ -170,6 +173,8 @@ class Results:
                 f" {tables.VERSION}; it is left alone: name another file, or take the version that"
                 " made it"
             )
+        elif not is_read:
+            self._database.execute(tables.PUT_INDEX)
 
     def _make_tables(self) -> None:
         self._database.execute("PRAGMA journal_mode = WAL")
@@ -230,10 +235,9 @@ class Results:
             self._database.execute("PRAGMA temp_store = FILE")
             self._execute_all(tables.TEMPORARY_TABLES)
             self._database.executemany("INSERT INTO within VALUES (?, ?)", ranges)
-        self._there = self._count(
-            "files JOIN within ON path >= low AND path < high"
-            " WHERE missing IS NULL AND substr(path, -1) <> x'2f'"
-        )
+        rows = "within JOIN files ON path >= low AND path < high"
+        not_there = self._count(f"{rows} WHERE {NOT_RIGHT} AND {_IS_NOT_THERE}")
+        self._there = self._count(rows) - not_there
         self._found = 0
         self._has_taken_over = self._count("files WHERE ctime IS NULL AND verdict = 'ok'") > 0
 
@@ -268,7 +272,8 @@ class Results:
         the right files again."""
         with self.transaction():
             self._database.execute(
-                "DELETE FROM files WHERE verdict = 'not read' AND substr(path, -1) = x'2f'"
+                f"DELETE FROM files WHERE {NOT_RIGHT} AND verdict = 'not read'"
+                " AND substr(path, -1) = x'2f'"
                 " AND EXISTS (SELECT 1 FROM within WHERE path >= low AND path < high)"
             )
             back = self._unmark_missing()
@@ -447,20 +452,23 @@ class Results:
     def counts(self, ranges: Ranges) -> Dict[str, Due]:
         """How many files there are of each verdict, and their sizes."""
         found: Dict[str, Due] = {}
-        for low, high in ranges:
-            for verdict, files, size in self._database.execute(
-                f"SELECT {STATE}, count(*), total(size) FROM files"
-                " WHERE path >= ? AND path < ? GROUP BY 1",
-                (low, high),
-            ):
+        rows = "FROM files WHERE path >= ? AND path < ?"
+        # Most are right: to count the others alone, by their index, takes less time.
+        select = (
+            f"SELECT 'ok', count(*), total(size) {rows} UNION ALL"
+            f" SELECT {STATE}, count(*), total(size) {rows} AND {NOT_RIGHT} GROUP BY 1"
+        )
+        for limits in ranges:
+            (_, *every), *others = self._database.execute(select, limits * 2)
+            right = (every[column] - sum(row[1 + column] for row in others) for column in (0, 1))
+            for verdict, files, size in (("ok", *right), *others):
                 before = found.get(verdict, Due(0, 0))
                 found[verdict] = Due(before.files + files, before.size + int(size))
         return found
 
     def not_right(self, ranges: Ranges) -> Iterator[Dict[str, Any]]:
         """The rows of what isn't right, in order of paths."""
-        condition = "(verdict <> 'ok' OR unread IS NOT NULL OR missing IS NOT NULL)"
-        return self._rows(condition, sorted(ranges), COLUMNS)
+        return self._rows(NOT_RIGHT, sorted(ranges), COLUMNS)
 
     def _rows(
         self, condition: str, ranges: Ranges, columns: List[str]

@@ -13,6 +13,8 @@ CREATE TABLE files (
     missing INTEGER
 ) WITHOUT ROWID;
 CREATE INDEX taken_over ON files (path) WHERE ctime IS NULL AND verdict = 'ok';
+CREATE INDEX IF NOT EXISTS not_right ON files (path)
+    WHERE verdict <> 'ok' OR unread IS NOT NULL OR missing IS NOT NULL;
 CREATE TABLE history (
     path BLOB NOT NULL, number INTEGER NOT NULL, time INTEGER NOT NULL, verdict TEXT NOT NULL,
     size INTEGER, changed INTEGER, md5 TEXT, sum TEXT, damage TEXT, before INTEGER, run INTEGER,
@@ -23,6 +25,9 @@ CREATE TABLE runs (
     bytes INTEGER NOT NULL
 );
 """
+
+# Results of this version that were made before have no such index.
+(PUT_INDEX,) = [row for row in TABLES.split(";\n") if " not_right " in row]
 
 # `due` has what is to be verified, `unread` what can't be read, `incoming` the rows of a batch, and
 # `within` the ranges of paths that a run is about.
@@ -46,6 +51,9 @@ ROW_COLUMNS = 20  # those of `incoming`
 # read.
 _VERDICT = "CASE WHEN unread IS NOT NULL AND verdict = 'ok' THEN 'not read' ELSE verdict END"
 _DAMAGE = "CASE WHEN unread IS NOT NULL AND verdict = 'ok' THEN unread ELSE damage END"
+
+# As the index has it.
+NOT_RIGHT = "(verdict <> 'ok' OR unread IS NOT NULL OR missing IS NOT NULL)"
 
 # What is said of a file.
 STATE = f"CASE WHEN missing IS NOT NULL THEN 'missing' ELSE {_VERDICT} END"
@@ -153,7 +161,7 @@ FROM files WHERE verdict <> 'not read'
 
 TAKE_OVER = [
     "ALTER TABLE files RENAME TO files_1",
-    *TABLES.split(";\n")[:3],
+    *TABLES.split(";\n")[:4],
     f"INSERT INTO files {_ROWS_OF_VERSION_1.format(files='files_1')}",
     f"INSERT INTO history {_HISTORY_OF_VERSION_1}",
     "DROP TABLE files_1",

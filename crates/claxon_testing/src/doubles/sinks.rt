@@ -1,4 +1,4 @@
-//! A writer that fails.
+//! Writers that fail, or count.
 ghost use Rattle.std.specs.Prelude.{◌≤◌};
 
 use std::io;
@@ -60,6 +60,45 @@ impl Write for Sink {
         if self.fails_at_flush {
             return Err(io::Error::from(self.kind));
         }
+        Ok(())
+    }
+}
+
+/// A writer that keeps no byte. One write fails, and its calls are counted.
+#[derive(Drop)]
+pub struct FailsAtOneWrite {
+    writes_left: u32,
+    failure: Option<ErrorKind>,
+    pub writes: u32,
+    pub flushes: u32,
+}
+
+impl FailsAtOneWrite {
+    /// After `writes` writes one fails like this.
+    pub const fn new(writes: u32, failure: ErrorKind) -> FailsAtOneWrite {
+        FailsAtOneWrite {
+            writes_left: writes,
+            failure: Some(failure),
+            writes: 0,
+            flushes: 0,
+        }
+    }
+}
+
+impl Write for FailsAtOneWrite {
+    fn write(&mut self, buf: &[u8]) -> io::Result<usize> {
+        self.writes = self.writes.wrapping_add(1);
+        if self.writes_left == 0
+            && let Some(kind) = self.failure.take()
+        {
+            return Err(io::Error::from(kind));
+        }
+        self.writes_left = self.writes_left.saturating_sub(1);
+        Ok(buf.len())
+    }
+
+    fn flush(&mut self) -> io::Result<()> {
+        self.flushes = self.flushes.wrapping_add(1);
         Ok(())
     }
 }

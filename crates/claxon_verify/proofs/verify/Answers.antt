@@ -14,3 +14,6 @@ returns-clause-out_of_memory_after_header g c = c.verify_exact.ensures.promises.
 
 pub returns-clause-places_are_counted : goal.returns-clause-places_are_counted
 returns-clause-places_are_counted g c = c.verify_exact.ensures.places_are_counted
+
+pub returns-clause-keeps_at_most : goal.returns-clause-keeps_at_most
+returns-clause-keeps_at_most g c = c.verify_exact.ensures.keeps_at_most

@@ -27,9 +27,10 @@ returns-clause-places_are_counted g c =
     let b = counted_bytes source c.walk_frames.new.input in
     let h = head_consumed a m (c.in_ok-info.info, c.in_ok-info.unsupported) (position_of c.read_head.new.input) e.gives e.has_bounds (front_from_start source c.args.input.now c.read_head.new.input c.requires e.gives) in
     let r = c.report_of.ensures in
-    let most = c.in_ok-walk.ensures.few in
-    counted_places b h c.args.computes_md5 c.in_ok-info.info c.in_ok-walk.walk c.report_of.result refl r.unsupported c.in_ok-walk.ensures.ok r.info r.frames r.samples r.kept r.sizes r.md5_is_judged r.md5_is_shown c.in_ok-info.unsupported r.unsupported r.is_right c.args.more
-    (few_kept most.0 most.1 r.few)
+    counted_places b h c.args.computes_md5 c.in_ok-info.info c.in_ok-walk.walk c.report_of.result refl r.unsupported c.in_ok-walk.ensures.ok r.info r.frames r.samples r.kept r.sizes r.md5_is_judged r.md5_is_shown c.in_ok-info.unsupported r.unsupported r.is_right
+
+pub returns-clause-keeps_at_most : goal.returns-clause-keeps_at_most
+returns-clause-keeps_at_most g c = let most = c.in_ok-walk.ensures.few in few_kept most.0 most.1 c.report_of.ensures.few
 
 pub returns-clause-loans : goal.returns-clause-loans
 returns-clause-loans g c = c.in_ok-walk.ensures.loans ∙ c.in_ok-info.ensures.gives.loans

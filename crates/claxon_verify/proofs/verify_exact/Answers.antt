@@ -13,5 +13,8 @@ pub returns-clause-places_are_counted : goal.returns-clause-places_are_counted
 returns-clause-places_are_counted g c =
     let at = c.new-input.ensures.inner in
     let n = same_input g.R.ReadBytes.source _ c.new-input.result c.verify_counted.new.input at c.verify_counted.ensures.loans in
-    let k = places_through g.R.ReadBytes.source _ c.new-input.result c.verify_counted.new.input at c.args.more c.args.computes_md5 c.verify_counted.result c.verify_counted.ensures.places_are_counted in
+    let k = places_through g.R.ReadBytes.source _ c.new-input.result c.verify_counted.new.input at c.args.computes_md5 c.verify_counted.result c.verify_counted.ensures.places_are_counted in
     search rules
+
+pub returns-clause-keeps_at_most : goal.returns-clause-keeps_at_most
+returns-clause-keeps_at_most g c = c.verify_counted.ensures.keeps_at_most

@@ -14,7 +14,7 @@ use Rattle.claxon_stream.specs.declared.event.FindEvent.TheVariants.{ReadOn as W
 use Rattle.claxon_stream.specs.declared.event.NeededBytes.{NeededBytes}
 use Rattle.claxon_stream.specs.declared.finder.FrameFinder.{FrameFinder}
 use Rattle.claxon_stream.proofs.SearchAnswers.{keeps_notes, needs_more, none_at_end, not_found, reads_on, wastes_nothing}
-use Rattle.claxon_stream.proofs.Searching.{cost_is, no_header, no_header_at_end, no_header_there, passed_over, search_begins, search_end, within}
+use Rattle.claxon_stream.proofs.Searching.{cost_is, no_header, no_header_at_end, no_header_there, passed_over, passed_unread, search_begins, search_end, within}
 use Rattle.claxon_stream.proofs.TriedFrames.{IsTried, found_there, goes_on, here, in_vain_there, needed_there, passed_there, refused_there, right_tried, stays, undecided_there, waste_stays, waste_there}
 use Rattle.claxon_stream.proofs.finder.FrameFinder.find_next.Goals as goal
 use Rattle.claxon_stream.proofs.finder.FrameFinder.find_next.Goals.{in-Faulty, in-Cut, in-End}
@@ -28,6 +28,12 @@ found needed = Ok (Waits needed)
 pub loop-position-init : goal.loop-position-init
 loop-position-init c =
     rw c.position-from.ensures (search_begins c.args.known c.args.at c.args.bytes.now c.args.is_end c.args.self.now _ refl (rw c.counted_from-self.ensures.wasted refl) (c.counted_from-self.ensures.counted ∙ c.position-from.ensures))
+
+pub loop-position-preserved-then-passes_unread : goal.loop-position-preserved-then-passes_unread
+loop-position-preserved-then-passes_unread c =
+    let at = c.loop-position.position in
+    let before = rw (c.held_from.ensures, c.position-from.ensures) at c.loop-position-test.true in
+    passed_unread c.args.known c.args.at c.args.bytes.now c.args.is_end c.args.self.now c.loop-position.self at c.loop-position.invariant before (c.passes_unread.ensures c.if-passes_unread.true)
 
 pub loop-position-preserved-in-NotWanted : goal.loop-position-preserved-in-NotWanted
 loop-position-preserved-in-NotWanted c =

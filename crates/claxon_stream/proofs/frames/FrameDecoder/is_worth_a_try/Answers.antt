@@ -10,6 +10,8 @@ pub returns-then-may_be_in : goal.returns-then-may_be_in
 returns-then-may_be_in c = record {
   position = refl;
   budget = refl;
+  faults = refl;
+  tried = c.may_be_in.ensures.tried;
   summed = omega (arith, c.may_be_in.ensures.summed);
   waits = λ e. c.if-is_due.false;
   knows = λ stream bytes start known. let k = c.may_be_in.ensures.may_end stream bytes start known in
@@ -20,6 +22,8 @@ pub returns-else-may_be_in : goal.returns-else-may_be_in
 returns-else-may_be_in c = record {
   position = refl;
   budget = refl;
+  faults = refl;
+  tried = c.may_be_in.ensures.tried;
   summed = omega (arith, c.may_be_in.ensures.summed);
   waits = λ e. c.if-is_due.false;
   knows = λ stream bytes start known. let k = c.may_be_in.ensures.may_end stream bytes start known in

@@ -1,2 +1,0 @@
--- Text that was put, and the flush after it failed.
-mod Flushing

@@ -1,5 +1,0 @@
-use Rattle.std.proofs.Common.{append_assoc, arith}
-use Rattle.claxon_inspect.proofs.facts.facts.Goals as goal
-
-pub returns : goal.returns
-returns g c = record { are_sound = grind (arith, append_assoc) }

@@ -1,0 +1,16 @@
+-- Reads of a source, one after another.
+pub mod Reading
+-- What bytes begin with, by their header and the rest of a frame.
+pub mod Beginnings
+-- Positions at which no frame begins.
+pub mod Positions
+-- Bytes of which each is 0, joined.
+pub mod Zeros
+-- Damage, one step after another.
+pub mod Damages
+-- What stands at a position, while more bytes are read.
+pub mod Standing
+-- The frame that comes next is the part.
+pub mod FoundFrames
+-- A part of a stream, and what is left after it.
+pub mod PartsGiven

@@ -1,0 +1,15 @@
+use Rattle.std.proofs.Common.{◌≡◌, ◌-◌, ◌≤◌}
+use Rattle.claxon_recovery.specs.Parts.{Stays, parts_info, parts_memory}
+use Rattle.claxon_recovery.proofs.parts.Parts.part_here.Given as goal
+
+abbrev pub invariant-loop-is_full : goal.invariant-loop-is_full
+invariant-loop-is_full g l = record {
+  stays : Stays g.R.ReadBytes.source l.fn.self l.self;
+  memory : parts_memory l.self ≡ parts_memory l.fn.self;
+  same : parts_info l.self ≡ parts_info l.fn.self;
+  least : 65536 ≤ l.wanted;
+  most : l.wanted ≤ 524288;
+}
+
+abbrev pub decreases-loop-is_full : goal.decreases-loop-is_full
+decreases-loop-is_full g l = 524288 - l.wanted

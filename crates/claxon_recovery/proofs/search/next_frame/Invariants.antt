@@ -1,0 +1,9 @@
+use Rattle.std.proofs.Common.{◌≡◌}
+use Rattle.claxon_recovery.specs.Search.{NoneBefore}
+use Rattle.claxon_recovery.proofs.search.next_frame.Given as goal
+
+abbrev pub invariant-loop-position : goal.invariant-loop-position
+invariant-loop-position l = record {
+  none : NoneBefore l.info l.bytes l.position;
+  memory : l.memory ≡ l.fn.memory;
+}

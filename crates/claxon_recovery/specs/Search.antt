@@ -1,0 +1,45 @@
+-- What a search for the next frame in bytes answers.
+use Rattle.std.specs.Prelude.{◌<◌, ◌≤◌, ◌*◌, ℕ, List, length, drop, Some, None, Result, Ok, Err}
+use Rattle.claxon.specs.BlockInfos.{BlockInfo}
+use Rattle.claxon.specs.Errors.{Error}
+use Rattle.claxon.specs.Promises.{IsOutOfMemory}
+use Rattle.claxon.specs.StreamInfos.{StreamInfo}
+use Rattle.claxon_seek.specs.Find.{WantedHeader}
+use Rattle.claxon_recovery.specs.AtStart.{
+  BeginsWithStreamFrame,
+  EndsEarly,
+  NoFrameWhateverFollows,
+}
+use Rattle.claxon_recovery.specs.declared.search.Next.{Next}
+use Rattle.claxon_recovery.specs.declared.search.Next.TheVariants.{Frame, OverBudget, Undecided}
+use Rattle.claxon_recovery.specs.declared.search.Tried.{Tried}
+use Rattle.claxon_recovery.specs.declared.search.Tried.TheVariants.{Cut, NoFrame, Unpaid, Whole}
+
+module _ (info : StreamInfo) where
+  -- The bytes begin with the header of a frame of the stream.
+  abbrev pub BeginsWithStreamHeader : List ℕ → Type 0
+  BeginsWithStreamHeader s = (block : BlockInfo) × WantedHeader (Some info) None s block
+
+  -- No frame begins before the position, whatever follows.
+  abbrev pub NoneBefore : List ℕ → ℕ → Type 0
+  NoneBefore bytes to = (at : ℕ) → at < to → NoFrameWhateverFollows info (drop at bytes)
+
+  -- No frame begins before the position that is answered, and what stands there.
+  abbrev pub NextIsThere : List ℕ → Result Next Error → Type 0
+  NextIsThere bytes (Ok (Frame to)) =
+      NoneBefore bytes to × (to < length bytes) × BeginsWithStreamFrame info (drop to bytes)
+  NextIsThere bytes (Ok (Undecided to)) =
+      NoneBefore bytes to × (to ≤ length bytes) × EndsEarly info (drop to bytes)
+  NextIsThere bytes (Ok (OverBudget to)) =
+      NoneBefore bytes to × (to < length bytes) × BeginsWithStreamHeader (drop to bytes)
+  NextIsThere bytes (Err e) = IsOutOfMemory {A = Next} (Err e)
+
+  -- What the bytes begin with.
+  abbrev pub TriedIsThere : List ℕ → ℕ → Result Tried Error → Type 0
+  TriedIsThere bytes budget (Ok Whole) = BeginsWithStreamFrame info bytes
+  TriedIsThere bytes budget (Ok NoFrame) = NoFrameWhateverFollows info bytes
+  TriedIsThere bytes budget (Ok Cut) = EndsEarly info bytes
+  TriedIsThere bytes budget (Ok Unpaid) =
+      (block : BlockInfo) × WantedHeader (Some info) None bytes block
+      × (budget < block.channels * block.duration)
+  TriedIsThere bytes budget (Err e) = IsOutOfMemory {A = Tried} (Err e)
