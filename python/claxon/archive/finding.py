@@ -4,8 +4,8 @@ import operator
 import os
 import stat
 import threading
-import time
-from typing import Callable, FrozenSet, Iterator, List, NamedTuple, Optional, Tuple
+from collections import deque
+from typing import Any, Callable, Deque, FrozenSet, Iterator, List, NamedTuple, Optional, Tuple
 
 from .batch import identity_of
 
@@ -24,8 +24,17 @@ Unreadable = Callable[[bytes, OSError], object]
 # Files that aren't opened in search of the marker, by their devices and inodes.
 Inodes = FrozenSet[Tuple[int, int]]
 
-# A part of what is found ends at so many files, or after so many seconds; so many are ahead.
-_FILES, _SECONDS, _AHEAD = 300, 0.5, 4
+# So many files are handed over together, and listed before others are searched: threads of Python
+# that work by turns take less time than two at once.
+_FILES = 6000
+
+# After so many files it is looked whether they are enough, or the search is stopped.
+_STEP = 30
+
+# How a name ends: whatever the case of each letter.
+_ENDINGS = tuple(
+    bytes(letters) for letters in itertools.product(b".", b"fF", b"lL", b"aA", b"cC")
+)
 
 # How many entries of a folder tell that it is seen elsewhere too.
 _ENTRIES = 10
@@ -68,50 +77,65 @@ class Finder(threading.Thread):
         self,
         operands: List[bytes],
         passed_over: Optional[Inodes],
-        hand: Callable[[Optional[Part]], object],
+        hand: Callable[[Optional["Finder"]], object],
     ) -> None:
-        """Hands over parts; None is the end. `taken` has to be called for each part."""
+        """Hands itself over where there is much to take, and waits until `go_on` is called; hands
+        over None at its end."""
         super().__init__(daemon=True)
         self._operands = operands
         self._passed_over = passed_over
         self._hand = hand
-        self._room = threading.Semaphore(_AHEAD)
+        self._turn = threading.Semaphore(0)
         self._is_stopped = False
-        self._part = Part([], [])
-        self._ends_at = time.monotonic() + _SECONDS
+        # What wasn't taken. Both ends may be used at once.
+        self._files: Deque[Found] = deque()
+        self._unread: Deque[Tuple[bytes, str]] = deque()
         self.error: Optional[BaseException] = None
 
-    def taken(self) -> None:
-        self._room.release()
+    def take(self) -> Part:
+        """What was found since the last call."""
+        return Part(_taken_from(self._files), _taken_from(self._unread))
+
+    def go_on(self) -> None:
+        self._turn.release()
 
     def stop(self) -> None:
         self._is_stopped = True
-        self._room.release()
+        self._turn.release()
 
     def run(self) -> None:
         try:
             for operand in self._operands:
-                for found in find(operand, self._passed_over, self._put_unread):
-                    files = self._part.files
-                    files.append(found)
-                    if len(files) >= _FILES or time.monotonic() > self._ends_at:
-                        self._hand_over()
-                    if self._is_stopped:
-                        return
-            self._hand_over()
+                if not self._is_stopped:
+                    self._find_below(operand)
         except BaseException as error:
             self.error = error
         self._hand(None)
 
+    def _find_below(self, operand: bytes) -> None:
+        """Finds the files of an operand, or some of them if it is stopped."""
+        found = find(operand, self._passed_over, self._put_unread)
+        for file in found:
+            self._files.append(file)
+            self._files.extend(itertools.islice(found, _STEP - 1))
+            if self._is_stopped:
+                return
+            if len(self._files) >= _FILES:
+                self._hand_over()
+
     def _put_unread(self, path: bytes, error: OSError) -> None:
-        self._part.unread.append((path, error.strerror or str(error)))
-        if len(self._part.unread) >= _FILES:
+        self._unread.append((path, error.strerror or str(error)))
+        if len(self._unread) >= _FILES:
             self._hand_over()
 
     def _hand_over(self) -> None:
-        self._room.acquire()
-        self._hand(self._part)
-        self._part, self._ends_at = Part([], []), time.monotonic() + _SECONDS
+        if not self._is_stopped:
+            self._hand(self)
+            self._turn.acquire()
+
+
+def _taken_from(found: "Deque[Any]") -> List[Any]:
+    return [found.popleft() for _ in range(len(found))]
 
 
 def find(operand: bytes, passed_over: Optional[Inodes], unreadable: Unreadable) -> Iterator[Found]:
@@ -132,11 +156,13 @@ def find(operand: bytes, passed_over: Optional[Inodes], unreadable: Unreadable) 
     folders = [operand] if stat.S_ISDIR(status.st_mode) else []
     while folders:
         folder = folders.pop()
+        below: List[bytes] = []
         try:
             with os.scandir(folder) as entries:
-                yield from _find_among(_by_name(entries), folders, passed_over, unreadable)
+                yield from _find_among(_by_name(entries), below, passed_over, unreadable)
         except OSError as error:
             unreadable(_as_folder(folder), error)
+        folders += reversed(below)
 
 
 def _by_name(entries: "Iterator[os.DirEntry[bytes]]") -> "Iterator[os.DirEntry[bytes]]":
@@ -159,7 +185,7 @@ def _find_among(
         if entry.is_dir(follow_symlinks=False):
             folders.append(entry.path)
             continue
-        is_named = entry.name[-5:].lower() == b".flac"
+        is_named = entry.name.endswith(_ENDINGS)
         if not is_named and passed_over is None:
             continue
         try:
@@ -167,7 +193,7 @@ def _find_among(
             if stat.S_ISREG(status.st_mode) and (
                 is_named or _is_marked(entry, status, passed_over)
             ):
-                yield (entry.path,) + identity_of(status)
+                yield (entry.path, *identity_of(status))
         except OSError as error:
             if is_named or not isinstance(error, FileNotFoundError):
                 unreadable(entry.path, error)

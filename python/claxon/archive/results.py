@@ -23,6 +23,9 @@ VERDICTS = ("ok", "wrong", "not supported", "not read", "missing")
 # more than 999 values in it.
 _CHUNK = 300 if sqlite3.sqlite_version_info >= (3, 32) else 150
 
+# What of a found file is compared with the columns of `UNCHANGED`.
+_AS_KNOWN = operator.itemgetter(0, 1, 2, 3, 5)
+
 # How many rows of files that are new are put by one statement, of these columns of `incoming`, and
 # into the history of these.
 _NEW = 70
@@ -247,14 +250,26 @@ class Results:
         """Lists those of the found files that are to be verified: also those that were verified
         before this time. The others are files and folders that can't be read, and why."""
         with _temporary():
-            for start in range(0, len(found), _CHUNK):
-                chunk = found[start : start + _CHUNK]
+            others = [file for part in _ascending(found) for file in self._others(part, before)]
+            for start in range(0, len(others), _CHUNK):
+                chunk = others[start : start + _CHUNK]
                 self._execute_for(tables.PUT_DUE, tables.FOUND_ROW, chunk, before)
             self._database.executemany("INSERT INTO unread VALUES (?, ?)", unread)
         self._found += len(found)
         if self._has_taken_over:
             with self.transaction():
                 self._put_inodes(found)
+
+    def _others(self, found: List[Found], before: float) -> List[Found]:
+        """Files whose paths ascend, without those that are right and unchanged. Most are: to read
+        all rows between two paths takes less time than to look each up."""
+        limits = found[0][0], found[-1][0], before, 2 * len(found)
+        rows = self._database.execute(tables.UNCHANGED, limits).fetchall()
+        known = list(map(_AS_KNOWN, found))
+        if rows == known:
+            return []
+        unchanged = set(rows)
+        return [file for file, as_known in zip(found, known) if as_known not in unchanged]
 
     def _put_inodes(self, found: List[Found]) -> None:
         """Completes rows that were taken over."""
@@ -486,6 +501,18 @@ class Results:
                 if not page:
                     break
                 low = page[-1][0] + b"\0"
+
+
+def _ascending(found: List[Found]) -> Iterator[List[Found]]:
+    """The files in parts, in each of which paths ascend."""
+    start, last = 0, b""
+    for index, file in enumerate(found):
+        if file[0] < last:
+            yield found[start:index]
+            start = index
+        last = file[0]
+    if found:
+        yield found[start:]
 
 
 @contextmanager

@@ -13,7 +13,7 @@ from typing import Tuple
 from .._program import installed_program
 from .batch import Attempt, Row, ToShow, find_program, unread_row, version_of, why_unable
 from .engines import Engine, EngineError, open_engine
-from .finding import Finder, OperandError, Part, check_operand, first_entries
+from .finding import Finder, OperandError, check_operand, first_entries
 from .progress import Progress
 from .results import Due, DueFile, Results, outermost, ranges_of
 
@@ -26,8 +26,9 @@ _BYTES_A_PROCESSOR, _FILES_A_PROCESSOR, _MOST_FILES = 1 << 20, 10, 5000
 # How many files are held that are due, but aren't in a batch.
 _MOST_WAITING = 5000
 
-# While files are being found, a processor without work waits for so many seconds for a large batch.
-_PAUSE = 1.0
+# While files are being found, a processor without work waits for so many seconds for a large batch,
+# and they are listed after so many.
+_PAUSE, _LISTED = 1.0, 0.5
 
 # How many objects are made, and not dropped, between two looks for cycles among them.
 _COLLECTED = 50000
@@ -177,7 +178,7 @@ class Verification:
         self._start = start
         self._interrupted = interrupted or threading.Event()
         self._engine: Optional[Engine] = None
-        # Parts that were found, None at their end, and futures that are done.
+        # The finder where it found more, None at its end, and futures that are done.
         self._events: "queue.SimpleQueue[Any]" = queue.SimpleQueue()
         self._running: Dict[Any, Batch] = {}
         self._again: Deque[Batch] = deque()  # batches that failed
@@ -189,7 +190,7 @@ class Verification:
         self._has_more = False  # there may be more rows
         self._due: Optional[Due] = None  # how much is due, once it is known
         self._taken = 0  # the size of the files in batches
-        self._submitted_at = time.monotonic()
+        self._submitted_at = self._listed_at = time.monotonic()
         self._unshown: List[Tuple[int, int, "Counter[str]"]] = []
         self._read: Dict[str, int] = {}  # how many files each worker has read
 
@@ -222,9 +223,11 @@ class Verification:
     def _take_events(self) -> None:
         """Takes what came, or waits for it for some time."""
         with suppress(queue.Empty):
-            self._take(self._events.get(timeout=_PAUSE))
+            self._take(self._events.get(timeout=_LISTED))
         for _ in range(self._events.qsize()):
             self._take(self._events.get())
+        if self._due is None and time.monotonic() - self._listed_at > _LISTED:
+            self._list_found()
         if self._engine is not None:
             for future in self._engine.lost(list(self._running)):
                 self._engine.cancel(future)
@@ -233,11 +236,9 @@ class Verification:
     def _take(self, event: Any) -> None:
         if event is None:
             self._end_listing()
-        elif isinstance(event, Part):
-            self._results.list_files(event.files, event.unread, self._before)
-            self._finder.taken()
-            self._has_more = True
-            self._progress.found(len(event.files))
+        elif event is self._finder:
+            self._list_found()
+            self._finder.go_on()
         elif event in self._running:
             found = self._opened().attempt(event)
             if found is None:
@@ -246,9 +247,18 @@ class Verification:
             self._keep(self._running[event], found)
             del self._running[event]
 
+    def _list_found(self) -> None:
+        """Lists what was found since it was done before."""
+        files, unread = self._finder.take()
+        self._results.list_files(files, unread, self._before)
+        self._listed_at = time.monotonic()
+        self._has_more = True
+        self._progress.found(len(files))
+
     def _end_listing(self) -> None:
         if self._finder.error is not None:
             raise self._finder.error
+        self._list_found()
         self._due = self._results.end_listing(self._wanted.sample)
         self._has_more = True
         self._fill()

@@ -140,6 +140,13 @@ WHERE files.size IS NOT found.column2 OR files.changed IS NOT found.column3
     OR files.verdict <> 'ok' OR files.unread IS NOT NULL OR files.verified < ?
 """
 
+# Files between two paths that aren't due where they are found as they were.
+UNCHANGED = """
+SELECT path, size, changed, ctime, inode FROM files
+WHERE path BETWEEN ? AND ? AND verdict = 'ok' AND unread IS NULL AND verified >= ?
+ORDER BY path LIMIT ?
+"""
+
 # The rows of version 1, in which `missing` stood in place of the verdict before it.
 _ROWS_OF_VERSION_1 = """
 SELECT path, size, changed, verified,
