@@ -12,6 +12,7 @@ from subprocess import DEVNULL
 from typing import List
 from unittest import mock
 
+from claxon.archive.batch import identity_of
 from claxon.archive.progress import Progress
 from claxon.archive.results import Results
 from claxon.archive.run import Wanted, run
@@ -162,6 +163,38 @@ class Again(Archive):
         self.assertEqual(self.run_files().status, 1)
         self.assertEqual(self.count_verified(), {longer: 1, touched: 1, new: 1})
         self.check_kept()
+
+    def test_unchanged_among_missing(self) -> None:
+        """There are more rows between two files than files that were found."""
+        for index in range(1, 39):
+            os.unlink(self.files / f"{index}.flac")
+        self.assertEqual(self.run_files().status, 3)
+        self.assertEqual(self.count_verified(), {})
+
+    def test_many(self) -> None:
+        """More than are listed together, and folders that hold files and folders."""
+        database = sqlite3.connect(self.results)
+        paths = []
+        for index in range(8000):
+            folder = self.files / f"{index % 11}" / f"{index % 7}"
+            path = (folder if index % 2 else folder.parent) / f"{index}.flac"
+            path.parent.mkdir(parents=True, exist_ok=True)
+            path.touch()
+            paths.append(os.fsencode(path))
+            _, *identity = identity_of(path.stat())
+            database.execute(
+                "INSERT INTO files (path, path_text, size, changed, ctime, device, inode, verified,"
+                " verdict) VALUES (?, ?, 0, ?, ?, ?, ?, ?, 'ok')",
+                (paths[-1], str(path), *identity, int(time.time())),
+            )
+        database.commit()
+        database.close()
+        self.assertEqual((self.run_files().status, self.count_verified()), (0, {}))
+        touched = [paths[0], paths[4321], paths[7999]]
+        for name in touched:
+            os.utime(name, ns=(0, 1))
+        self.assertEqual(self.run_files().status, 1)
+        self.assertEqual(self.count_verified(), {name: 1 for name in touched})
 
     def test_older_than(self) -> None:
         database = sqlite3.connect(self.results)

@@ -26,7 +26,7 @@ Inodes = FrozenSet[Tuple[int, int]]
 
 # So many files are handed over together, and listed before others are searched: threads of Python
 # that work by turns take less time than two at once.
-_FILES = 6000
+_FILES = 3000
 
 # After so many files it is looked whether they are enough, or the search is stopped.
 _STEP = 30
