@@ -159,29 +159,31 @@ def find(operand: bytes, passed_over: Optional[Inodes], unreadable: Unreadable) 
         below: List[bytes] = []
         try:
             with os.scandir(folder) as entries:
-                yield from _find_among(_by_name(entries), below, passed_over, unreadable)
+                for chunk in _by_name(entries):
+                    yield from _find_among(chunk, below, passed_over, unreadable)
         except OSError as error:
             unreadable(_as_folder(folder), error)
         folders += reversed(below)
 
 
-def _by_name(entries: "Iterator[os.DirEntry[bytes]]") -> "Iterator[os.DirEntry[bytes]]":
+def _by_name(entries: "Iterator[os.DirEntry[bytes]]") -> "Iterator[List[os.DirEntry[bytes]]]":
+    """Lists of entries, each with the first name at its end."""
     chunk = list(itertools.islice(entries, _SORTED))
     while chunk:
         chunk.sort(key=operator.attrgetter("name"), reverse=True)
-        while chunk:
-            yield chunk.pop()  # with the status that it keeps
+        yield chunk
         chunk = list(itertools.islice(entries, _SORTED))
 
 
 def _find_among(
-    entries: "Iterator[os.DirEntry[bytes]]",
+    entries: "List[os.DirEntry[bytes]]",
     folders: List[bytes],
     passed_over: Optional[Inodes],
     unreadable: Unreadable,
 ) -> Iterator[Found]:
-    """The FLAC files among what is in a folder. Adds the folders in it to `folders`."""
-    for entry in entries:
+    """The FLAC files among entries of a folder. Adds the folders among them to `folders`."""
+    while entries:
+        entry = entries.pop()  # with the status that it keeps
         if entry.is_dir(follow_symlinks=False):
             folders.append(entry.path)
             continue

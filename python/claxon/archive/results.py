@@ -23,8 +23,9 @@ VERDICTS = ("ok", "wrong", "not supported", "not read", "missing")
 # more than 999 values in it.
 _CHUNK = 300 if sqlite3.sqlite_version_info >= (3, 32) else 150
 
-# What of a found file is compared with the columns of `UNCHANGED`.
-_AS_KNOWN = operator.itemgetter(0, 1, 2, 3, 5)
+# A found file, or a row of `UNCHANGED`, without the device: a disk has another where it is mounted
+# anew.
+_WITHOUT_DEVICE = operator.itemgetter(0, 1, 2, 3, 5)
 
 # How many rows of files that are new are put by one statement, of these columns of `incoming`, and
 # into the history of these.
@@ -265,11 +266,10 @@ class Results:
         all rows between two paths takes less time than to look each up."""
         limits = found[0][0], found[-1][0], before, 2 * len(found)
         rows = self._database.execute(tables.UNCHANGED, limits).fetchall()
-        known = list(map(_AS_KNOWN, found))
-        if rows == known:
+        if rows == found:
             return []
-        unchanged = set(rows)
-        return [file for file, as_known in zip(found, known) if as_known not in unchanged]
+        known = set(map(_WITHOUT_DEVICE, rows))
+        return [file for file in found if _WITHOUT_DEVICE(file) not in known]
 
     def _put_inodes(self, found: List[Found]) -> None:
         """Completes rows that were taken over."""
@@ -503,16 +503,11 @@ class Results:
                 low = page[-1][0] + b"\0"
 
 
-def _ascending(found: List[Found]) -> Iterator[List[Found]]:
+def _ascending(found: List[Found]) -> List[List[Found]]:
     """The files in parts, in each of which paths ascend."""
-    start, last = 0, b""
-    for index, file in enumerate(found):
-        if file[0] < last:
-            yield found[start:index]
-            start = index
-        last = file[0]
-    if found:
-        yield found[start:]
+    descents = map(operator.lt, found[1:], found)
+    starts = [0, *itertools.compress(range(1, len(found)), descents), len(found)]
+    return [found[start:end] for start, end in zip(starts, starts[1:]) if start < end]
 
 
 @contextmanager

@@ -142,7 +142,7 @@ WHERE files.size IS NOT found.column2 OR files.changed IS NOT found.column3
 
 # Files between two paths that aren't due where they are found as they were.
 UNCHANGED = """
-SELECT path, size, changed, ctime, inode FROM files
+SELECT path, size, changed, ctime, device, inode FROM files
 WHERE path BETWEEN ? AND ? AND verdict = 'ok' AND unread IS NULL AND verified >= ?
 ORDER BY path LIMIT ?
 """
