@@ -3,13 +3,13 @@ use Rattle.std.proofs.Common.{◌≡◌, ◌⊎◌, inl, inr, ℕ, ◌+◌, ◌*
 use Rattle.std.specs.Option.{option_map}
 use Rattle.std.specs.Prelude.{IfSome, Result, Ok, Err}
 use Rattle.std.proofs.lemmas.Bool.{cases_lt, false≢true}
-use Rattle.claxon.specs.Block.{max_block_samples}
 use Rattle.claxon.specs.Errors.{Error}
 use Rattle.claxon.specs.Fault.{Fault}
 use Rattle.claxon.specs.Frame.{FrameBytesFault, IsBitDepth, StreamFormat, known_bit_depth}
 use Rattle.claxon.specs.FrameReader.{stream_with}
 use Rattle.claxon.specs.ShownHead.{HasBitDepth}
 use Rattle.claxon.specs.StreamInfos.{StreamInfo}
+use Rattle.claxon_stream.specs.Budget.{cost_of_try}
 use Rattle.claxon_stream.specs.Event.{EventIs, IsOpen, IsReadOn}
 use Rattle.claxon_stream.specs.FrameDecoder.{IsDue}
 use Rattle.claxon_stream.specs.FrameEnd.{IsZeroWithin, Knows, StartsWith, tried_bytes}
@@ -52,7 +52,7 @@ notes_after stream depth all rest ends capacity position new old end (Ok (Cut at
 notes_after stream depth all rest ends capacity position new old end (Err x) h e none start known = subst (λ (n : ℕ). Knows stream (drop n all) end) (sym e.2) (subst (Knows stream (drop position all)) (sym h) known)
 
 -- work is wasted by `ReadOn` alone, where the bytes weren't due
-pub wasted_by : (r : Result Event Error) (due : Bool) (rest : List ℕ) (work : ℕ) → IsWorkOf r due rest work → (work ≡ 0) ⊎ (IsReadOn r × (due ≡ false) × (work ≤ length rest + max_block_samples))
+pub wasted_by : (r : Result Event Error) (due : Bool) (rest : List ℕ) (work : ℕ) → IsWorkOf r due rest work → (work ≡ 0) ⊎ (IsReadOn r × (due ≡ false) × (work ≡ cost_of_try (length rest)))
 wasted_by (Ok (ReadOn needed)) false rest work h = inr (tt, refl, h)
 wasted_by (Ok (ReadOn needed)) true rest work h = inl h
 wasted_by (Ok (Decoded frame)) due rest work h = inl h

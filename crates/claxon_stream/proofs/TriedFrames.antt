@@ -2,7 +2,6 @@
 use Rattle.std.proofs.Common.{◌≡◌, ◌⊎◌, inl, inr, ℕ, ◌+◌, ◌-◌, ◌*◌, ◌<◌, ◌≤◌, max, Bool, true, false, List, ◌++◌, length, drop, Option, None, refl, sym, ap, subst, ◌∙◌, arith}
 use Rattle.std.specs.Global.{Global}
 use Rattle.std.specs.Prelude.{IfSome, Result, Ok, Err}
-use Rattle.claxon.specs.Block.{max_block_samples}
 use Rattle.claxon.specs.BlockInfo.{HeaderOf}
 use Rattle.claxon.specs.BlockInfos.{BlockInfo}
 use Rattle.claxon.specs.DecodedFrame.{FrameWithHeader, decoded_view}
@@ -19,7 +18,7 @@ use Rattle.claxon.specs.StreamInfos.{StreamInfo}
 use Rattle.claxon.proofs.BlockInfo.{header_has_two_bytes, headers_unambiguous}
 use Rattle.claxon_seek.specs.Find.{WantedFrame, WantedHeader, known_format}
 use Rattle.claxon_seek.proofs.Searches.{begins_longer, frame_is_wanted}
-use Rattle.claxon_stream.specs.Budget.{charged, counted_position, wasted_work}
+use Rattle.claxon_stream.specs.Budget.{charged, cost_of_try, counted_position, wasted_work}
 use Rattle.claxon_stream.specs.DecodedAtStart.{BeginsWithLength}
 use Rattle.claxon_stream.specs.Event.{EventIs, IsAnswer, IsOpen, IsReadOn, needed_after}
 use Rattle.claxon_stream.specs.FrameDecoder.{EventIsOfStream, EventIsSound, FaultIsTimely, FrameIsTimely, IsOverBudget, IsRightOf, WasteIsInVain, decoder_position}
@@ -231,7 +230,7 @@ module _ {known : Option StreamInfo} {at : ℕ} {bytes : List ℕ} {is_end : Boo
     IsWasted stream p =
         IsOpen (known_format known) (held_from at p bytes)
         × IsZeroWithin (drop p stream) (max (length (held_from at p bytes)) (summed_bytes old.decoder.end))
-        × (wasted_work d.budget ≤ wasted_work old.decoder.budget + (length (held_from at p bytes) + max_block_samples))
+        × (wasted_work d.budget ≤ wasted_work old.decoder.budget + cost_of_try (length (held_from at p bytes)))
 
     pub waste_there : WasteIsInVain known at bytes is_end tried.decoder r d → (stream : List ℕ) → StandsIn stream at bytes is_end → IsRightOf known stream old.decoder → (wasted_work d.budget ≤ wasted_work old.decoder.budget) ⊎ IsWasted stream (decoder_position d)
     waste_there waste stream stands right =

@@ -27,7 +27,6 @@ use Rattle.std.specs.Option.{option_map}
 use Rattle.claxon.specs.Error.{IsFault}
 use Rattle.claxon.specs.Errors.{Error}
 use Rattle.claxon.specs.Fault.{Fault}
-use Rattle.claxon.specs.Block.{max_block_samples}
 use Rattle.claxon.specs.Frame.{Block, Frame, FrameBytesFault, NoFrameLeft, StreamFormat}
 use Rattle.claxon.specs.FrameReader.{block_view, stream_with}
 use Rattle.claxon.specs.Prefix.{BeginsWith}
@@ -43,7 +42,7 @@ use Rattle.claxon_stream.specs.Event.{
   IsReadOn,
   needed_after,
 }
-use Rattle.claxon_stream.specs.Budget.{IsSpent, charged, wasted_work}
+use Rattle.claxon_stream.specs.Budget.{IsSpent, charged, cost_of_try, wasted_work}
 use Rattle.claxon_stream.specs.DecodedAtStart.{SamplesAreSaid}
 use Rattle.claxon_stream.specs.FrameEnd.{
   IsZeroWithin,
@@ -183,8 +182,8 @@ module _ (known : Option StreamInfo) (at : ℕ) (bytes : List ℕ) (is_end : Boo
       → held_from at (decoder_position old) bytes ≡ t ++ rest
       → length (held_from at (decoder_position old) bytes) < 2 * length t
 
-  -- Work is wasted only by a try in vain after bytes whose CRC-16 is 0, and no more than its bytes
-  -- and the samples of a block.
+  -- Work is wasted only by a try in vain after bytes whose CRC-16 is 0, and no more than the try is
+  -- charged.
   abbrev pub WasteIsInVain : Result Event Error → FrameDecoder → Type 0
   WasteIsInVain result new = (stream : List ℕ) → StandsIn stream at bytes is_end
       → IsRightOf known stream old → (tries_wasted new ≤ tries_wasted old)
@@ -193,7 +192,7 @@ module _ (known : Option StreamInfo) (at : ℕ) (bytes : List ℕ) (is_end : Boo
       × IsZeroWithin (drop (decoder_position old) stream)
       (max (length (held_from at (decoder_position old) bytes)) (summed_bytes old.end))
       × (tries_wasted new ≤ tries_wasted old
-      + (length (held_from at (decoder_position old) bytes) + max_block_samples)))
+      + cost_of_try (length (held_from at (decoder_position old) bytes))))
 
 -- ---- what faults cost
 

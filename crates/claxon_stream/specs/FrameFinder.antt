@@ -22,14 +22,20 @@ use Rattle.std.specs.Prelude.{
   Result,
   Ok,
 }
-use Rattle.claxon.specs.Block.{max_block_samples}
 use Rattle.claxon.specs.BlockInfos.{BlockInfo}
 use Rattle.claxon.specs.Errors.{Error}
 use Rattle.claxon.specs.Fault.{Fault}
 use Rattle.claxon.specs.Frame.{FrameBytesFault, NoFrameLeft}
 use Rattle.claxon.specs.StreamInfos.{StreamInfo}
 use Rattle.claxon_seek.specs.Find.{EndsInHeader, WantedHeader, known_format}
-use Rattle.claxon_stream.specs.Budget.{charged, counted_position, made_good, wasted_work, work_left}
+use Rattle.claxon_stream.specs.Budget.{
+  charged,
+  cost_of_try,
+  counted_position,
+  made_good,
+  wasted_work,
+  work_left,
+}
 use Rattle.claxon_stream.specs.Event.{IsOpen, needed_after}
 use Rattle.claxon_stream.specs.FrameDecoder.{
   IsFromPosition,
@@ -125,7 +131,7 @@ module _ (known : Option StreamInfo) (at : ℕ) (bytes : List ℕ) (is_end : Boo
       → IsUndecided known (held_from at (finder_position new) bytes) new
 
   -- Of the budget of tries, work is wasted only by a try in vain after bytes whose CRC-16 is 0, and
-  -- no more than its bytes and the samples of a block.
+  -- no more than the try is charged.
   abbrev pub FindWasteIsInVain : FrameFinder → Result FindEvent Error → FrameFinder → Type 0
   FindWasteIsInVain old result new = (stream : List ℕ) → StandsIn stream at bytes is_end
       → IsRightOf known stream old.decoder
@@ -135,7 +141,7 @@ module _ (known : Option StreamInfo) (at : ℕ) (bytes : List ℕ) (is_end : Boo
       × IsZeroWithin (drop (finder_position new) stream)
       (max (length (held_from at (finder_position new) bytes)) (summed_bytes old.decoder.end))
       × (tries_wasted new.decoder ≤ tries_wasted old.decoder
-      + (length (held_from at (finder_position new) bytes) + max_block_samples)))
+      + cost_of_try (length (held_from at (finder_position new) bytes))))
 
 -- ---- parts of the code
 

@@ -1,9 +1,8 @@
 -- What is noted of an answer.
-use Rattle.std.specs.Prelude.{◌≡◌, ◌+◌, ◌≤◌, ℕ, Bool, true, false, List, length, Option, Result, Ok, Err}
-use Rattle.claxon.specs.Block.{max_block_samples}
+use Rattle.std.specs.Prelude.{◌≡◌, ℕ, Bool, true, false, List, length, Option, Result, Ok, Err}
 use Rattle.claxon.specs.Errors.{Error}
 use Rattle.claxon.specs.Frame.{StreamFormat}
-use Rattle.claxon_stream.specs.Budget.{charged}
+use Rattle.claxon_stream.specs.Budget.{charged, cost_of_try}
 use Rattle.claxon_stream.specs.DecodedAtStart.{SamplesAreSaid}
 use Rattle.claxon_stream.specs.FrameEnd.{EndIsNoted, StartKnows}
 use Rattle.claxon_stream.specs.declared.ending.FrameEnd.{FrameEnd}
@@ -22,7 +21,7 @@ EndIsAfter (Err e) old rest new = new ≡ old
 
 -- The work of `ReadOn` where the bytes weren't due to be tried; else none.
 abbrev pub IsWorkOf : Result Event Error → Bool → List ℕ → ℕ → Type 0
-IsWorkOf (Ok (ReadOn needed)) false rest work = work ≤ length rest + max_block_samples
+IsWorkOf (Ok (ReadOn needed)) false rest work = work ≡ cost_of_try (length rest)
 IsWorkOf (Ok (ReadOn needed)) true rest work = work ≡ 0
 IsWorkOf (Ok (Decoded frame)) is_due rest work = work ≡ 0
 IsWorkOf (Ok (Faulty fault)) is_due rest work = work ≡ 0

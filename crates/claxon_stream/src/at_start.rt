@@ -3,7 +3,6 @@ ghost use Rattle.std.specs.Prelude.{◌≡◌, ◌≤◌, IfSome, length, vec_ca
 ghost use Rattle.std.specs.Option.{option_map};
 ghost use Rattle.std.specs.Io.Cursor.{cursor_inner, cursor_position};
 ghost use Rattle.claxon.specs.Cursor.{cursor_left};
-ghost use Rattle.claxon.specs.Block.{max_block_samples};
 ghost use Rattle.claxon.specs.ShownHead.{HasBitDepth};
 ghost use Rattle.claxon.specs.FrameReader.{frame_input, frame_stream, stream_with};
 ghost use Rattle.claxon_stream.specs.DecodedAtStart.{DecodedAtStart, SamplesAreSaid};
@@ -31,19 +30,7 @@ pub(crate) fn frame_at_start(
     found
 }
 
-// The number of samples, of all channels, that the header says with which the bytes begin; 0 if none is read. A block has no more.
-pub(crate) fn samples_at_start(bytes: &[u8], known: Option<StreamInfo>) -> u64
-    requires { IfSome known (λ info. HasBitDepth info) }
-    ensures { result ≤ max_block_samples }
-{
-    let mut frames = frames_of(bytes, known);
-    match frames.read_header_or_eof() {
-        Ok(Some(info)) => u64::from(info.channels) * u64::from(info.duration),
-        _ => 0,
-    }
-}
-
-// The same, of each header that is there.
+// The number of samples, of all channels, that the header says with which the bytes begin; 0 if none is there.
 pub(crate) fn samples_said(bytes: &[u8], known: Option<StreamInfo>) -> u64
     requires { IfSome known (λ info. HasBitDepth info) }
     ensures are_said { SamplesAreSaid (option_map stream_with known) bytes.now result }

@@ -17,8 +17,8 @@ ghost use Rattle.claxon_stream.specs.Event.{event_of, faulty, moved_by, needed_a
 ghost use Rattle.claxon_stream.specs.Noted.{EndIsAfter, IsWorkOf, IsWorkOfFault};
 ghost use Rattle.claxon_stream.specs.Held.{ends_there, held_from};
 
-use crate::at_start::{frame_at_start, samples_at_start, samples_said};
-use crate::budget::Budget;
+use crate::at_start::{frame_at_start, samples_said};
+use crate::budget::{Budget, cost_of_try};
 use crate::ending::FrameEnd;
 use crate::event::{Event, NeededBytes, StreamFault};
 use claxon::frame::DecodedFrameResult;
@@ -181,8 +181,7 @@ impl FrameDecoder {
         let found = frame_at_start(buffer, rest, known, &mut taken);
         let event = event_of(found, self.position, rest.len(), ends);
         self.end = end_after(&event, self.end, rest);
-        self.budget
-            .charge(work_in_vain(&event, is_due, rest, known));
+        self.budget.charge(work_in_vain(&event, is_due, rest));
         let moved = moved_by(&event, taken, rest.len());
         self.faults = self
             .faults
@@ -199,7 +198,7 @@ impl FrameDecoder {
     {
         let rest = held_from(bytes, at, self.position);
         let ends = ends_there(is_end, at, self.position);
-        self.budget.make_good(at + bytes.len() as u64);
+        self.budget.make_tries_good(at + bytes.len() as u64);
         let is_due = self.is_due(rest, ends);
         if self.is_worth_a_try(rest, is_due) {
             return None;
@@ -295,16 +294,12 @@ fn end_after(event: &Result<Event>, end: FrameEnd, rest: &[u8]) -> FrameEnd
     }
 }
 
-// How much work led to no answer, where the CRC alone made the bytes worth a try: their number, and half of the samples, of which not all
-// were decoded.
-fn work_in_vain(event: &Result<Event>, is_due: bool, rest: &[u8], known: Option<StreamInfo>) -> u64
-    requires { IfSome known (λ info. HasBitDepth info) }
+// How much work led to no answer, where the CRC alone made the bytes worth a try.
+fn work_in_vain(event: &Result<Event>, is_due: bool, rest: &[u8]) -> u64
     ensures { IsWorkOf event.now is_due rest.now result }
 {
     match event {
-        Ok(Event::ReadOn(_)) if !is_due => {
-            (rest.len() as u64).saturating_add(samples_at_start(rest, known) / 2)
-        }
+        Ok(Event::ReadOn(_)) if !is_due => cost_of_try(rest.len()),
         _ => 0,
     }
 }

@@ -16,7 +16,7 @@ returns-then-is_worth_a_try c =
     let w = rw c.held_from-rest.ensures at c.is_worth_a_try.ensures in
     record {
       position = w.position;
-      wastes_nothing = rw w.budget (omega (arith, c.make_good.ensures.wasted));
+      wastes_nothing = rw w.budget (omega (arith, c.make_tries_good.ensures.wasted));
       charges_nothing = w.faults;
       tried = w.tried;
       summed = w.summed;
@@ -37,7 +37,7 @@ returns c =
     let ends = ends_there c.args.at old.position c.args.is_end in
     record {
       position = w.position;
-      wastes_nothing = rw w.budget (omega (arith, c.make_good.ensures.wasted));
+      wastes_nothing = rw w.budget (omega (arith, c.make_tries_good.ensures.wasted));
       charges_nothing = w.faults;
       tried = w.tried;
       summed = w.summed;
