@@ -356,9 +356,10 @@ void claxon_frames_go_on(struct claxon_frames *frames, uint64_t position);
 /* Decodes the next frame. With CLAXON_OK, `block` and `last` are filled, channels * duration samples are written, interleaved,
  * and `position` is moved after the frame. NEED_MORE: no whole frame is there; or very many tries were in vain, as in a stream
  * that was made to cost time. BUFFER_TOO_SMALL: a frame's header is there, and its samples don't fit; `block` is filled from
- * it, and nothing else is changed. FORMAT_ERROR, UNSUPPORTED: no frame begins there; `position` is moved after what is wrong.
- * INPUT_ENDS: the stream ends within the frame. NO_MORE: it ends after the last frame, or fewer than two bytes later.
- * `position` is at its end then. FORMAT_ERROR, UNSUPPORTED, INPUT_ENDS, OUT_OF_MEMORY: `error` gets a text. */
+ * it, and nothing else is changed. FORMAT_ERROR, UNSUPPORTED: no frame begins there, or it has more than
+ * CLAXON_MAX_FRAME_BYTES; `position` is moved after what is wrong. INPUT_ENDS: the stream ends within the frame. NO_MORE: it
+ * ends after the last frame, or fewer than two bytes later. `position` is at its end then. FORMAT_ERROR, UNSUPPORTED,
+ * INPUT_ENDS, OUT_OF_MEMORY: `error` gets a text. */
 uint32_t claxon_frames_next(struct claxon_frames *frames, const uint8_t *bytes, size_t length, uint64_t at, uint32_t is_end,
                             const struct claxon_info *info, int32_t *samples, size_t capacity, struct claxon_block *block,
                             char *error, size_t error_size);
@@ -406,9 +407,9 @@ void claxon_seeker_start(struct claxon_seeker *seeker, const struct claxon_info 
 /* Seeks. With CLAXON_OK, `found` is a frame whose block has the sample, `block` is filled from its header, with the time by the
  * clock, and its samples are written, interleaved; claxon_frames_go_on to found.end goes on after it. Headers lead there: they
  * and the length are never believed, and where they mislead all bytes are searched. NO_MORE: no frame from the first one on has
- * the sample. OVER_BUDGET: none was found, and headers were passed over untried, as very much work had led to no frame.
- * BUFFER_TOO_SMALL: the samples don't fit; `block` is filled, and the call is to be repeated. After NEED_MORE bytes are needed
- * from seeker->position on; fewer may be handed in. */
+ * the sample. OVER_BUDGET: none was found, and headers were passed over untried, as very much work had led to no frame, or one
+ * needs more than CLAXON_MAX_FRAME_BYTES. BUFFER_TOO_SMALL: the samples don't fit; `block` is filled, and the call is to be
+ * repeated. After NEED_MORE bytes are needed from seeker->position on; fewer may be handed in. */
 uint32_t claxon_seeker_next(struct claxon_seeker *seeker, const uint8_t *bytes, size_t length, uint64_t at, uint32_t is_end,
                             const struct claxon_info *info, int32_t *samples, size_t capacity, struct claxon_block *block);
 

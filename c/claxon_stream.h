@@ -468,18 +468,12 @@ CLAXON_STATIC uint32_t claxon_stream_find_tag(const struct claxon_stream *stream
 /* Frames. */
 
 CLAXON_STATIC uint32_t claxon_stream_try_frame(struct claxon_stream *stream) {
-    int is_full = stream->held >= CLAXON_MAX_FRAME_BYTES;
-    uint32_t status;
     if (stream->frames.position != stream->position) {
         claxon_frames_go_on(&stream->frames, stream->position);
     }
-    status = (stream->is_planar ? claxon_frames_next_planar : claxon_frames_next)(
-        &stream->frames, claxon_stream_bytes(stream), is_full ? CLAXON_MAX_FRAME_BYTES : stream->held, stream->position,
-        stream->has_ended || is_full, &stream->info, stream->samples, stream->samples_size, &stream->next, stream->error,
-        sizeof stream->error);
-    return status == CLAXON_INPUT_ENDS && is_full
-               ? claxon_stream_fault(stream, CLAXON_FORMAT_ERROR, "frame longer than 16777215 bytes")
-               : status;
+    return (stream->is_planar ? claxon_frames_next_planar : claxon_frames_next)(
+        &stream->frames, claxon_stream_bytes(stream), stream->held, stream->position, stream->has_ended, &stream->info,
+        stream->samples, stream->samples_size, &stream->next, stream->error, sizeof stream->error);
 }
 
 /* Passes over the frame that was decoded, and shows its block. Where the streaminfo hasn't one block size the clock tells the
@@ -598,7 +592,7 @@ CLAXON_STATIC uint32_t claxon_stream_go_to(struct claxon_stream *stream, uint64_
     return CLAXON_OK;
 }
 
-/* Seeks by the bytes that are held, and goes to those that are needed, if these are no more than of a frame. */
+/* Seeks by the bytes that are held, and goes to those that are needed. */
 CLAXON_STATIC uint32_t claxon_stream_try_seek(struct claxon_stream *stream) {
     struct claxon_seeker *seeker = &stream->seeker;
     uint32_t status = CLAXON_NO_MORE;
@@ -607,8 +601,8 @@ CLAXON_STATIC uint32_t claxon_stream_try_seek(struct claxon_stream *stream) {
             seeker, claxon_stream_bytes(stream), stream->held, stream->position, stream->has_ended, &stream->info,
             stream->samples, stream->samples_size, &stream->next);
     }
-    if (status != CLAXON_NEED_MORE || seeker->needed > CLAXON_MAX_FRAME_BYTES) {
-        return status == CLAXON_NEED_MORE ? (uint32_t)CLAXON_OVER_BUDGET : status;
+    if (status != CLAXON_NEED_MORE) {
+        return status;
     }
     if (claxon_stream_go_to(stream, seeker->position) != CLAXON_OK) {
         return CLAXON_READ_FAILED;

@@ -284,6 +284,35 @@ static void test_contents(void) {
            "a head", "at 2^63");
 }
 
+/* What a call says of zeros after a frame's header, from the position 100 on, and whether that is right. */
+static void test_zeros(const uint8_t *bytes, size_t length, uint32_t is_end, uint32_t status, const char *text,
+                       const char *what) {
+    struct claxon_info none;
+    struct claxon_frames frames;
+    struct claxon_block block;
+    char error[128] = "";
+    size_t passed = status == CLAXON_NEED_MORE ? 0 : length < CLAXON_MAX_FRAME_BYTES ? length : CLAXON_MAX_FRAME_BYTES;
+    memset(&none, 0, sizeof none);
+    claxon_frames_start(&frames, 100);
+    expect(claxon_frames_next(&frames, bytes, length, 100, is_end, &none, samples, 16, &block, error, sizeof error) == status &&
+               strcmp(error, text) == 0 && frames.position == 100 + passed,
+           "an endless frame", what);
+}
+
+/* A frame has to end in as many bytes as a streaminfo can give. */
+static void test_longest(void) {
+    const char *longer = "frame longer than 16777215 bytes";
+    uint8_t *bytes = calloc(1, CLAXON_MAX_FRAME_BYTES + 1);
+    memcpy(bytes, frame, 7);
+    bytes[7] = 0x10; /* a fixed predictor of order 0: then a run of zeros is a Rice code */
+    test_zeros(bytes, CLAXON_MAX_FRAME_BYTES - 1, 0, CLAXON_NEED_MORE, "", "a byte less than the most");
+    test_zeros(bytes, CLAXON_MAX_FRAME_BYTES - 1, 1, CLAXON_INPUT_ENDS, "the bytes end",
+               "a byte less than the most at the end");
+    test_zeros(bytes, CLAXON_MAX_FRAME_BYTES, 0, CLAXON_FORMAT_ERROR, longer, "the most bytes");
+    test_zeros(bytes, CLAXON_MAX_FRAME_BYTES + 1, 0, CLAXON_FORMAT_ERROR, longer, "a byte more than the most");
+    free(bytes);
+}
+
 /* Each request for memory is refused in turn: the call is repeated. */
 static void test_memory(void) {
     struct claxon_info none;
@@ -335,6 +364,7 @@ int main(int argc, char **argv) {
     expect(files > 0, "pieces", "no files");
     test_limits();
     test_contents();
+    test_longest();
     test_memory();
     printf("pieces: %d files, %d failures\n", files, failures);
     return failures != 0;

@@ -4,9 +4,9 @@ from array import array
 from typing import Callable, Optional
 
 from claxon import _calls
-from claxon._calls import BUFFER_TOO_SMALL, ERROR_SIZE, INPUT_ENDS, MAX_FRAME_BYTES, NEED_MORE
-from claxon._calls import NO_MORE, OK, OUT_OF_MEMORY, Info, library
-from claxon._errors import Error, FormatError, fault_of, frame_fault_of
+from claxon._calls import BUFFER_TOO_SMALL, ERROR_SIZE, MAX_FRAME_BYTES, NEED_MORE, NO_MORE, OK
+from claxon._calls import OUT_OF_MEMORY, Info, library
+from claxon._errors import Error, fault_of, frame_fault_of
 from claxon._samples import converted
 from claxon._types import Block
 from claxon._window import FIRST_WINDOW, Window
@@ -81,8 +81,6 @@ class Frames:
     def fault(self, status: int) -> Error:
         """What was reported of the next frame, as an exception."""
         window, position = self.window, self.window.position()
-        if status == INPUT_ENDS and window.held() == MAX_FRAME_BYTES:
-            return FormatError(f"frame longer than {MAX_FRAME_BYTES} bytes", position)
         text = self._error.value.decode("utf-8")
         if self.info.bits_per_sample != 32:
             return fault_of(status, text, position)
@@ -183,15 +181,14 @@ class Frames:
 
     def _call(self) -> int:
         window, at = self.window, self.window.at.value
-        held = min(window.end - at, MAX_FRAME_BYTES)
         frames, info, found = self._pointers
         decode = library.claxon_frames_next_planar if self.is_planar else library.claxon_frames_next
         status: int = decode(
             frames,
             window.address + at,
-            held,
+            window.end - at,
             self.place,
-            window.has_ended or held == MAX_FRAME_BYTES,
+            window.has_ended,
             info,
             self._address,
             self._capacity,

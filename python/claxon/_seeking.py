@@ -1,6 +1,6 @@
 """Seeking to a sample."""
 from claxon import _calls
-from claxon._calls import MAX_FRAME_BYTES, NEED_MORE, OK, OUT_OF_MEMORY, library
+from claxon._calls import NEED_MORE, OK, OUT_OF_MEMORY, library
 from claxon._frames import Frames
 
 _STEP = 1 << 14  # bytes that are read at once: most frames have fewer
@@ -45,13 +45,13 @@ class Seeker:
                 break
 
     def _finds(self) -> bool:
-        """Goes to the frame, and reads what that takes: no more at once than a frame may have."""
+        """Goes to the frame, and reads what that takes."""
         seeker, window = self._next, self._window
         while True:
             status = self._frames.seek(seeker)
             if status == OUT_OF_MEMORY:
                 raise self._frames.fault(status)
-            if status != NEED_MORE or seeker.needed > MAX_FRAME_BYTES:
+            if status != NEED_MORE:
                 return status == OK
             window.go_to(seeker.position)
             if window.held() < seeker.needed:

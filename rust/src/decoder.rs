@@ -1,5 +1,5 @@
 //! A decoder without input of its own.
-use crate::error::{format_error, Error, Result};
+use crate::error::{Error, Result};
 use crate::ffi::{
     self, Clock, Failure, Frames, Info, NextFound, NextFrame, NextSought, Search, Seeker, MAX_FRAME_BYTES,
 };
@@ -19,17 +19,11 @@ pub struct Held<'a> {
     pub is_end: bool,
 }
 
-impl<'a> Held<'a> {
+impl Held<'_> {
     // The number of those from this position on; none where they begin after it.
     fn count_from(&self, position: u64) -> usize {
         let passed = position.checked_sub(self.position);
         passed.map_or(0, |passed| (self.bytes.len() as u64).saturating_sub(passed) as usize)
-    }
-
-    // Without those that are more than a frame from this position on may have.
-    fn of_a_frame(self, position: u64) -> Held<'a> {
-        let count = self.bytes.len() - (self.count_from(position) - MAX_FRAME_BYTES);
-        Held { bytes: &self.bytes[..count], is_end: true, ..self }
     }
 }
 
@@ -223,8 +217,6 @@ impl Decoder {
     fn next_block(&mut self, held: Held<'_>, buffer: &mut Vec<i32>) -> Result<Event> {
         self.lost = Lost::Nothing;
         let begin = self.frames.position;
-        let is_full = held.count_from(begin) >= MAX_FRAME_BYTES;
-        let held = if is_full { held.of_a_frame(begin) } else { held };
         if buffer.len() < self.usual {
             buffer.resize(self.usual, 0);
         }
@@ -234,7 +226,7 @@ impl Decoder {
                 NextFrame::BufferTooSmall(block) => buffer.resize(block.samples(), 0),
                 NextFrame::NeedMore => return Ok(Event::NeedMore(self.frames.needed)),
                 NextFrame::End => return Ok(Event::End),
-                NextFrame::Failed(failure) => return self.refuse(failure, begin, is_full),
+                NextFrame::Failed(failure) => return self.refuse(failure, begin),
             }
         }
     }
@@ -249,12 +241,9 @@ impl Decoder {
         Event::Block(Block::new(block, mem::take(buffer)))
     }
 
-    fn refuse(&mut self, failure: Failure, begin: u64, is_full: bool) -> Result<Event> {
+    fn refuse(&mut self, failure: Failure, begin: u64) -> Result<Event> {
         if matches!(failure.status, ffi::FORMAT_ERROR | ffi::UNSUPPORTED | ffi::INPUT_ENDS) {
             self.lost = Lost::Refused(begin);
-        }
-        if is_full && failure.status == ffi::INPUT_ENDS {
-            return format_error("frame longer than 16777215 bytes");
         }
         Err(failure.into())
     }
@@ -315,12 +304,11 @@ impl Decoder {
                     return Ok(self.shown(block, buffer));
                 }
                 NextSought::BufferTooSmall(block) => buffer.resize(block.samples(), 0),
-                // No more is held than of a frame.
-                NextSought::NeedMore if seeker.needed <= MAX_FRAME_BYTES => {
+                NextSought::NeedMore => {
                     self.seek = self.seek.map(|seek| Seek { seeker: Some(seeker), ..seek });
                     return Ok(Event::NeedMore(seeker.needed));
                 }
-                NextSought::NeedMore | NextSought::Nothing => {
+                NextSought::Nothing => {
                     self.seek = None;
                     self.go_on(from.unwrap_or(self.first_frame));
                     return Ok(Event::End);

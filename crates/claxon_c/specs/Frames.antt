@@ -60,7 +60,13 @@ use Rattle.claxon_c.specs.declared.frame.ClaxonFrame.{ClaxonFrame}
 use Rattle.claxon_c.specs.declared.frames.ClaxonFrames.{ClaxonFrames}
 use Rattle.claxon_c.specs.declared.heads.ClaxonInfo.{ClaxonInfo}
 use Rattle.claxon_c.specs.declared.next_block.ClaxonBlock.{ClaxonBlock}
-use Rattle.claxon_c.specs.HeldBytes.{PositionIsReported, says_yes}
+use Rattle.claxon_c.specs.HeldBytes.{
+  PositionIsReported,
+  frame_bytes,
+  frame_end,
+  is_full,
+  says_yes,
+}
 use Rattle.claxon_c.specs.Info.{known_info, known_stream}
 use Rattle.claxon_c.specs.NextBlock.{SampleOrder, ShowsInfo}
 use Rattle.claxon_c.specs.ShownFrame.{no_frame, shown_frame}
@@ -68,6 +74,7 @@ use Rattle.claxon_c.specs.Status.{
   ErrorIsReported,
   TextIsPut,
   buffer_too_small,
+  format_error,
   input_ends,
   need_more,
   no_more,
@@ -108,7 +115,9 @@ pub record IsNextEvent (known : Option StreamInfo) (at : ℕ) (bytes : List ℕ)
 abbrev pub FramesWait : ℕ → List ℕ → ℕ → ClaxonFrames → Bool → ClaxonFrames → Type 0
 FramesWait at bytes is_end old true new =
     (needed : NeededBytes) × (next : FrameDecoder)
-    × IsWaiting at bytes (says_yes is_end) old.decoder (Some needed) next
+    × IsWaiting at (frame_bytes at (decoder_position old.decoder) bytes)
+    (says_yes (frame_end at (decoder_position old.decoder) bytes is_end)) old.decoder (Some needed)
+    next
     × (new ≡ needed_frames next needed.count old.last)
 FramesWait at bytes is_end old false new = new ≡ old
 
@@ -136,18 +145,25 @@ IsLargerHeader stream bytes capacity (Some said) =
 IsLargerHeader stream bytes capacity None =
     BeginsWith (HeaderOfLargerBlock stream capacity) bytes → ⊥
 
--- `block` and `shown` are what is shown of a block before and after the call, `before` and `after`
--- the text.
-module _ (block shown : ClaxonBlock) (before after : List ℕ) where
+-- `full` says that as many bytes are held as a frame may have. `block` and `shown` are what is shown
+-- of a block before and after the call, `before` and `after` the text.
+module _ (full : Bool) (block shown : ClaxonBlock) (before after : List ℕ) where
+  -- A frame isn't whole: it is too long, or the stream ends within it.
+  abbrev pub CutIsShown : ℕ → Type 0
+  CutIsShown status =
+      ((full ≡ true) × (status ≡ format_error)
+      × TextIsPut (codes "frame longer than 16777215 bytes") before after)
+      ⊎ ((full ≡ false) × (status ≡ input_ends)
+      × TextIsPut (codes "the bytes end") before after)
+
   -- The status of an event without a block, and what is shown of it: the end of the stream; a
-  -- fault; a frame within which the stream ends; that bytes are needed; or that memory was refused.
+  -- fault; a frame that isn't whole; that bytes are needed; or that memory was refused.
   abbrev pub ShowsStatus : Result Event Error → ℕ → Type 0
   ShowsStatus (Ok (Decoded frame)) status = ⊥
   ShowsStatus (Ok End) status = (status ≡ no_more) × (shown ≡ block) × (after ≡ before)
   ShowsStatus (Ok (Faulty fault)) status =
       ErrorIsReported fault.error status before after × (shown ≡ block)
-  ShowsStatus (Ok (Cut position)) status =
-      (status ≡ input_ends) × TextIsPut (codes "the bytes end") before after × (shown ≡ block)
+  ShowsStatus (Ok (Cut position)) status = CutIsShown status × (shown ≡ block)
   ShowsStatus (Ok (ReadOn needed)) status =
       (status ≡ need_more) × (shown ≡ block) × (after ≡ before)
   ShowsStatus (Err e) status = ErrorIsReported e status before after × (shown ≡ block)
@@ -165,7 +181,9 @@ module _ (info : ClaxonInfo) (at : ℕ) (bytes : List ℕ) (is_end : ℕ) where
   pub record FindsFrame (capacity : ℕ) (old : ClaxonFrames) (found : BlockValue)
       (new : ClaxonFrames) (shown : ClaxonBlock) : Type 0 where
     pub said : BlockInfo
-    pub is_next : IsNextEvent (known_info info) at bytes is_end old.decoder
+    pub is_next : IsNextEvent (known_info info) at
+        (frame_bytes at (decoder_position old.decoder) bytes)
+        (frame_end at (decoder_position old.decoder) bytes is_end) old.decoder
         (Ok (Decoded (record { info = said; block = found }))) new.decoder
     pub needed : new.needed ≡ 0
     pub last :
@@ -185,13 +203,15 @@ module _ (info : ClaxonInfo) (at : ℕ) (bytes : List ℕ) (is_end : ℕ) where
     pub shows : ShowsInfo said shown
     pub frames : new ≡ old
 
-  -- The next event is shown, which has no block.
+  -- The next event is shown, which has no block. It is that of as many bytes as a frame may have.
   abbrev pub ShowsNext : ClaxonFrames → ℕ → ClaxonFrames → ClaxonBlock → ClaxonBlock
       → List ℕ → List ℕ → Type 0
   ShowsNext old status new block shown before after =
       (event : Result Event Error) × (next : FrameDecoder)
-      × IsNextEvent (known_info info) at bytes is_end old.decoder event next
-      × ShowsStatus block shown before after event status
+      × IsNextEvent (known_info info) at (frame_bytes at (decoder_position old.decoder) bytes)
+      (frame_end at (decoder_position old.decoder) bytes is_end) old.decoder event next
+      × ShowsStatus (is_full at (decoder_position old.decoder) bytes) block shown before after
+      event status
       × (new ≡ next_frames old event next)
 
   -- The block of the next frame is returned; or the status, of a header whose samples don't fit or

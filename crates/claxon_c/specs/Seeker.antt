@@ -46,6 +46,7 @@ use Rattle.claxon_c.specs.declared.heads.ClaxonInfo.{ClaxonInfo}
 use Rattle.claxon_c.specs.declared.next_block.ClaxonBlock.{ClaxonBlock}
 use Rattle.claxon_c.specs.declared.seeker.ClaxonSeeker.{ClaxonSeeker}
 use Rattle.claxon_c.specs.HeldBytes.{says_yes}
+use Rattle.claxon_c.specs.declared.held.TheConstants.{MAX_FRAME_BYTES}
 use Rattle.claxon_c.specs.Info.{known_info}
 use Rattle.claxon_c.specs.NextBlock.{SampleOrder, ShowsInfo}
 use Rattle.claxon_c.specs.ShownFrame.{no_frame, shown_frame}
@@ -102,8 +103,8 @@ module _ (info : ClaxonInfo) (at : ℕ) (bytes : List ℕ) (is_end : ℕ) where
     pub shows : ShowsInfo (info_at found.time found.frame.info) shown
 
   -- What is shown of another event: a frame whose samples don't fit, and which is to be sought
-  -- again; that there is none, or none within the budget; which bytes are needed; or that memory
-  -- was refused.
+  -- again; that there is none, or none within the budget; which bytes are needed, if they are no
+  -- more than a frame may have; or that memory was refused.
   module _ (capacity : ℕ) (old : ClaxonSeeker) (status : ℕ) (new : ClaxonSeeker)
       (block shown : ClaxonBlock) where
     abbrev pub ShowsSeek : Result SeekEvent Error → Seeker → Type 0
@@ -117,7 +118,10 @@ module _ (info : ClaxonInfo) (at : ℕ) (bytes : List ℕ) (is_end : ℕ) where
         (status ≡ over_budget) × KeepsSeeker next old.position 0 old.found new
         × (shown ≡ block)
     ShowsSeek (Ok (ReadOn needed)) next =
-        (status ≡ need_more) × KeepsSeeker next needed.position needed.count old.found new
+        (((needed.count ≤ MAX_FRAME_BYTES) × (status ≡ need_more)
+        × KeepsSeeker next needed.position needed.count old.found new)
+        ⊎ ((MAX_FRAME_BYTES < needed.count) × (status ≡ over_budget)
+        × KeepsSeeker next old.position 0 old.found new))
         × (shown ≡ block)
     ShowsSeek (Err e) next =
         (status ≡ out_of_memory) × KeepsSeeker next old.position 0 old.found new

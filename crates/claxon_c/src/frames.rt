@@ -23,11 +23,13 @@ ghost use Rattle.claxon_c.specs.NextBlock.{InterleavedArePut, PlanarArePut};
 
 use crate::frame::ClaxonFrame;
 use crate::heads::ClaxonInfo;
-use crate::held::{position_fits, report_position};
+use crate::held::{bytes_of_a_frame, end_of_a_frame, is_full, position_fits, report_position};
 use crate::interleave::put_interleaved;
 use crate::next_block::{ClaxonBlock, has_larger};
 use crate::planar::put_planar;
-use crate::status::{BUFFER_TOO_SMALL, INPUT_ENDS, NEED_MORE, NO_MORE, OK, put_text, report};
+use crate::status::{
+    BUFFER_TOO_SMALL, FORMAT_ERROR, INPUT_ENDS, NEED_MORE, NO_MORE, OK, put_text, report,
+};
 use claxon::Block;
 use claxon::frame::BlockInfo;
 use claxon::metadata::StreamInfo;
@@ -73,7 +75,7 @@ pub extern "C" fn claxon_frames_go_on(frames: &mut ClaxonFrames, position: u64)
 }
 
 /// Decodes the next frame into interleaved samples, by the bytes that are held: from the position `at` of the stream on, and up to
-/// its end if `is_end` isn't 0.
+/// its end if `is_end` isn't 0. A frame with more bytes than a streaminfo can give is a fault.
 #[unsafe(no_mangle)]
 pub extern "C" fn claxon_frames_next(
     alloc: Global,
@@ -157,7 +159,10 @@ fn is_waiting(frames: &mut ClaxonFrames, bytes: &[u8], at: u64, is_end: u32) -> 
     ensures { FramesWait at bytes.now is_end frames.old result frames.new }
 {
     let mut decoder = frames.decoder;
-    match decoder.waits(bytes, at, is_end != 0) {
+    let position = decoder.position();
+    let window = bytes_of_a_frame(bytes, at, position);
+    let ends = end_of_a_frame(bytes, at, position, is_end);
+    match decoder.waits(window, at, ends != 0) {
         Some(needed) => {
             *frames = needed_frames(decoder, needed.count, frames.last);
             true
@@ -192,10 +197,12 @@ fn next_frame(
         *block = ClaxonBlock::from_header(&said);
         return Err(BUFFER_TOO_SMALL);
     }
-    let event = decoder.decode_next(Vec::new(alloc), bytes, at, is_end != 0, known);
+    let window = bytes_of_a_frame(bytes, at, position);
+    let ends = end_of_a_frame(bytes, at, position, is_end);
+    let event = decoder.decode_next(Vec::new(alloc), window, at, ends != 0, known);
     let last = last_frame(&event, position, decoder.position(), frames.last);
     *frames = needed_frames(decoder, needed_by(&event), last);
-    block_or_status(event, block, error)
+    block_or_status(event, is_full(bytes, at, position), block, error)
 }
 
 // What the header says that the bytes begin with, if its block has more samples than the capacity.
@@ -242,13 +249,15 @@ fn last_frame(
     }
 }
 
-// The block of a frame, whose properties are shown. Else the status, and the text of a fault.
+// The block of a frame, whose properties are shown. Else the status, and the text of a fault. A frame that doesn't end in as many bytes
+// as it may have has one.
 fn block_or_status(
     event: claxon::Result<Event>,
+    is_full: bool,
     block: &mut ClaxonBlock,
     error: &mut [u8],
 ) -> Result<Block, u32>
-    ensures { IsBlockOrStatus block.old block.new error.old error.new event result }
+    ensures { IsBlockOrStatus is_full block.old block.new error.old error.new event result }
 {
     match event {
         Ok(Event::Decoded(frame)) => {
@@ -257,6 +266,10 @@ fn block_or_status(
         }
         Ok(Event::End) => Err(NO_MORE),
         Ok(Event::Faulty(fault)) => Err(report(&fault.error, error)),
+        Ok(Event::Cut(_)) if is_full => {
+            put_text("frame longer than 16777215 bytes", error);
+            Err(FORMAT_ERROR)
+        }
         Ok(Event::Cut(_)) => {
             put_text("the bytes end", error);
             Err(INPUT_ENDS)

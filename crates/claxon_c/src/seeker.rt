@@ -15,7 +15,7 @@ ghost use Rattle.claxon_c.specs.Seeker.{
 
 use crate::frame::ClaxonFrame;
 use crate::heads::ClaxonInfo;
-use crate::held::position_fits;
+use crate::held::{MAX_FRAME_BYTES, position_fits};
 use crate::interleave::put_interleaved;
 use crate::next_block::ClaxonBlock;
 use crate::planar::put_planar;
@@ -63,7 +63,7 @@ pub extern "C" fn claxon_seeker_start(
 }
 
 /// Seeks, by the bytes that are held: from the position `at` of the stream on, and up to its end if `is_end` isn't 0. The samples of
-/// the frame that is found are interleaved.
+/// the frame that is found are interleaved. No more bytes are asked for than a streaminfo can give of a frame.
 #[unsafe(no_mangle)]
 pub extern "C" fn claxon_seeker_next(
     alloc: Global,
@@ -159,6 +159,10 @@ fn next_sought(
             Err(OVER_BUDGET)
         }
         Ok(SeekEvent::ReadOn(needed)) => {
+            if needed.count > MAX_FRAME_BYTES {
+                *seeker = seeker_with(next, position, 0, last);
+                return Err(OVER_BUDGET);
+            }
             *seeker = seeker_with(next, needed.position, needed.count, last);
             Err(NEED_MORE)
         }

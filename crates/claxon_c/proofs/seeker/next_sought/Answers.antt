@@ -43,13 +43,21 @@ returns-in-Ok-OverBudget c =
     let next = rw c.seeker-next.ensures at given in
     record { next_sought = (event, c.seek_next.new.self, next, (refl, c.seeker_with-in-Ok-OverBudget.ensures, refl)) }
 
-pub returns-in-Ok-ReadOn : goal.returns-in-Ok-ReadOn
-returns-in-Ok-ReadOn c =
+pub returns-then-needed-gt-MAX_FRAME_BYTES : goal.returns-then-needed-gt-MAX_FRAME_BYTES
+returns-then-needed-gt-MAX_FRAME_BYTES c =
     let event : Result SeekEvent Error = Ok (ReadOn c.in-Ok-ReadOn.needed) in
     let e = rw (c.in-Ok-ReadOn.is, c.in-Ok-ReadOn.field-0-is) at c.seek_next.ensures in
     let given = next_seek c.args.info.now c.known_stream.result c.known_stream.ensures.is_known c.args.at c.args.bytes.now c.args.is_end c.seeker-next.result event c.seek_next.new.self e.keeps_sought e.is_of_stream e.needs_more in
     let next = rw c.seeker-next.ensures at given in
-    record { next_sought = (event, c.seek_next.new.self, next, (refl, c.seeker_with-in-Ok-ReadOn.ensures, refl)) }
+    record { next_sought = (event, c.seek_next.new.self, next, (inr (c.if-needed-gt-MAX_FRAME_BYTES.true, refl, c.seeker_with-then-needed-gt-MAX_FRAME_BYTES.ensures), refl)) }
+
+pub returns-else-needed-gt-MAX_FRAME_BYTES : goal.returns-else-needed-gt-MAX_FRAME_BYTES
+returns-else-needed-gt-MAX_FRAME_BYTES c =
+    let event : Result SeekEvent Error = Ok (ReadOn c.in-Ok-ReadOn.needed) in
+    let e = rw (c.in-Ok-ReadOn.is, c.in-Ok-ReadOn.field-0-is) at c.seek_next.ensures in
+    let given = next_seek c.args.info.now c.known_stream.result c.known_stream.ensures.is_known c.args.at c.args.bytes.now c.args.is_end c.seeker-next.result event c.seek_next.new.self e.keeps_sought e.is_of_stream e.needs_more in
+    let next = rw c.seeker-next.ensures at given in
+    record { next_sought = (event, c.seek_next.new.self, next, (inl (c.if-needed-gt-MAX_FRAME_BYTES.false, refl, c.seeker_with-in-Ok-ReadOn.ensures), refl)) }
 
 pub returns-in-Err : goal.returns-in-Err
 returns-in-Err c =
