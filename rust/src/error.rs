@@ -85,10 +85,6 @@ impl From<Failure> for Error {
 /// The result of a call of this crate.
 pub type Result<T> = result::Result<T, Error>;
 
-pub(crate) fn format_error<T>(reason: &'static str) -> Result<T> {
-    Err(Error::FormatError(reason))
-}
-
 pub(crate) fn end_of_input() -> io::Error {
     io::Error::new(io::ErrorKind::UnexpectedEof, "the bytes end too early")
 }
