@@ -1,5 +1,5 @@
 -- The frame that comes next is the part.
-use Rattle.std.proofs.Common.{◌≡◌, inl, inr, ℕ, ◌≤◌, List, [], ◌++◌, length, drop, take, Option, Some, None, refl, sym, ap, subst, ◌∙◌, arith}
+use Rattle.std.proofs.Common.{◌≡◌, inl, inr, ℕ, ◌<◌, ◌≤◌, List, [], ◌++◌, length, drop, take, Option, Some, None, refl, sym, ap, subst, ◌∙◌, arith}
 use Rattle.std.proofs.lemmas.List.{append_cancel_left, take-append-drop, take-append-le, take_at}
 use Rattle.claxon.specs.BlockInfo.{HeaderOf}
 use Rattle.claxon.specs.DecodedFrame.{FrameValue, decoded_view}
@@ -7,10 +7,12 @@ use Rattle.claxon.specs.Frame.{StreamFormat}
 use Rattle.claxon.specs.Prefix.{BeginsWith}
 use Rattle.claxon.specs.ShownHead.{HasBitDepth}
 use Rattle.claxon.specs.StreamInfos.{StreamInfo}
+use Rattle.claxon.proofs.BlockInfo.{header_has_two_bytes}
 use Rattle.claxon.proofs.DecodedFrames.{decoded_unambiguous}
 use Rattle.claxon_seek.specs.Find.{known_format}
 use Rattle.claxon_seek.proofs.Searches.{begins_longer, frame_is_wanted}
 use Rattle.claxon_recovery.specs.AtStart.{BeginsWithStreamFrame, NoFrameWhateverFollows, StreamFrameCode}
+use Rattle.claxon_recovery.specs.Kept.{most_kept}
 use Rattle.claxon_recovery.specs.Parts.{IsCause, IsFrameOf, IsPart}
 use Rattle.claxon_recovery.specs.declared.part.Cause.{Cause}
 use Rattle.claxon_recovery.specs.declared.part.Cause.TheVariants.{Cut, Fault, OtherFormat, TooLong}
@@ -27,6 +29,12 @@ module _ (info : StreamInfo) (value : FrameValue) (t : List ℕ) (code : StreamF
       let header : BeginsWith (HeaderOf stream value.info) s = subst (BeginsWith (HeaderOf stream value.info)) (sym e) (begins_longer t rest code.0.1) in
       (value.info, frame_is_wanted (Some info) None s value.info (record { format = code.1; holds = tt; header = header }) (record { block = value.block; frame = (t, rest, code.0.0, e) }))
 
+  pub frame_begins : (s rest : List ℕ) → s ≡ t ++ rest → BeginsWithStreamFrame info s
+  frame_begins s rest e = begins s rest e
+
+  pub frame_has_bytes : length t ≡ 0 → ⊥
+  frame_has_bytes none = let h = code.0.1 in header_has_two_bytes stream value.info h.0 h.1 h.2 (subst (λ (l : List ℕ). length l < 2) h.3 (omega (arith, none)))
+
   -- bytes that are long enough begin with it too
   begins_front : (front more rest : List ℕ) → front ++ more ≡ t ++ rest → length t ≤ length front → BeginsWithStreamFrame info front
   begins_front front more rest e le =
@@ -34,7 +42,7 @@ module _ (info : StreamInfo) (value : FrameValue) (t : List ℕ) (code : StreamF
       let same : take n front ≡ t = sym (take-append-le n front more le) ∙ ap (take n) e ∙ take_at t rest n refl in
       begins front (drop n front) (sym (take-append-drop n front) ∙ ap (λ (l : List ℕ). l ++ drop n front) same)
 
-  module _ (depth : HasBitDepth info) (s rest : List ℕ) (e : s ≡ t ++ rest) (few : length t ≤ 524288) where
+  module _ (depth : HasBitDepth info) (s rest : List ℕ) (e : s ≡ t ++ rest) (few : length t ≤ most_kept info) where
     whatever : NoFrameWhateverFollows info s → ⊥
     whatever none = none [] (frame_longer info s [] (begins s rest e))
 

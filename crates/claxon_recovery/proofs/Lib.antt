@@ -14,3 +14,9 @@ pub mod Standing
 pub mod FoundFrames
 -- A part of a stream, and what is left after it.
 pub mod PartsGiven
+-- What tries are charged, and which positions are counted as unsearched.
+pub mod Charges
+-- How many bytes are kept.
+pub mod Kept
+-- Whole runs.
+pub mod Runs

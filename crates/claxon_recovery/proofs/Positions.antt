@@ -7,6 +7,7 @@ use Rattle.claxon.specs.ShownHead.{HasBitDepth}
 use Rattle.claxon.specs.StreamInfos.{StreamInfo}
 use Rattle.claxon_recovery.specs.AtStart.{BeginsWithStreamFrame, EndsEarly, NoFrameWhateverFollows}
 use Rattle.claxon_recovery.specs.Parts.{IsCause, IsStep, MayBePassed, NoFrames}
+use Rattle.claxon_recovery.specs.Kept.{most_kept}
 use Rattle.claxon_recovery.specs.Steps.{first_step, step_count, step_unsearched}
 use Rattle.claxon_recovery.specs.Search.{BeginsWithStreamHeader, NoneBefore}
 use Rattle.claxon_recovery.specs.declared.part.Cause.{Cause}
@@ -62,7 +63,7 @@ module _ (info : StreamInfo) where
       pub step_over_header : BeginsWithStreamHeader info (drop to bytes) → IsStep info all (record { searched = to; passes_next = true; is_last = false })
       step_over_header header = passing (inl (header.0, header_longer (Some info) None (drop to bytes) left header.0 header.1))
 
-      pub step_over_long : EndsEarly info (drop to bytes) → 524288 ≤ length (drop to bytes) → IsStep info all (record { searched = to; passes_next = true; is_last = false })
+      pub step_over_long : EndsEarly info (drop to bytes) → most_kept info ≤ length (drop to bytes) → IsStep info all (record { searched = to; passes_next = true; is_last = false })
       step_over_long ends long = passing (inr (record { front = drop to bytes; rest = left; joined = refl; long = long; ends = ends }))
 
       -- up to one of which more bytes have to be read

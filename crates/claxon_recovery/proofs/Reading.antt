@@ -1,5 +1,5 @@
 -- Reads of a source, one after another.
-use Rattle.std.proofs.Common.{◌≡◌, ◌⊎◌, inl, inr, ℕ, ◌<◌, ◌≤◌, List, [], ◌++◌, length, take, Option, None, Some, refl, sym, ap, subst, ◌∙◌, append_assoc, append-nil, arith, length-append}
+use Rattle.std.proofs.Common.{◌≡◌, ◌⊎◌, inl, inr, ℕ, ◌<◌, ◌≤◌, Bool, true, false, List, [], ◌++◌, length, take, Option, None, Some, refl, sym, ap, subst, ◌∙◌, append_assoc, append-nil, arith, length-append}
 use Rattle.std.specs.Prelude.{IfErr, IfSome, Result, Ok, Err}
 use Rattle.std.proofs.lemmas.List.{nil_from_length}
 use Rattle.claxon_input.proofs.Sources.{same_front_as}
@@ -7,7 +7,7 @@ use Rattle.claxon.specs.Error.{IsIo}
 use Rattle.claxon.specs.Errors.{Error}
 use Rattle.claxon.specs.Source.{HasMore, IsFront, IsKnown, MeetsEof, ReadFailedOrEof, Source, Skips, SourceReadFailed, Takes, TakesFront}
 use Rattle.claxon.specs.State.{remaining_as}
-use Rattle.claxon_recovery.specs.Window.{Fails, ReadFails, Reads, ReadsOn, WasRead, bytes_left, pending, window_source}
+use Rattle.claxon_recovery.specs.Window.{Fails, MoreIs, ReadFails, Reads, ReadsOn, WasRead, bytes_left, pending, window_source}
 use Rattle.claxon_recovery.specs.declared.window.Window.{Window}
 
 -- ---- bytes that are taken
@@ -130,6 +130,10 @@ module _ {R : Type 0} (source : R → Source ℕ) where
 
   pub on_both : {a b c : Window R} → ReadsOn source a b → ReadsOn source b c → ReadsOn source a c
   on_both {a} h k = record { more = h.more ++ k.more; held = k.held ∙ ap (λ (l : List ℕ). l ++ k.more) h.held ∙ append_assoc (pending a) h.more k.more; reads = reads_both h.reads k.reads }
+
+  pub more_is_read : (a b : Window R) (more : Bool) → MoreIs source a b more → ReadsOn source a b
+  more_is_read a b true h = h.0
+  more_is_read a b false h = h.0
 
   pub on_fail : {a b c : Window R} (e : Error) → ReadsOn source a b → ReadFails source b c e → ReadFails source a c e
   on_fail e h k = record { is_io = k.is_io; fails = fails_after h.reads k.fails }

@@ -7,6 +7,7 @@ use Rattle.std.specs.Prelude.{Ok}
 use Rattle.claxon_recovery.specs.AtStart.{AnswerIsThere, EndsEarly, HasCause}
 use Rattle.claxon_recovery.specs.declared.at_start.Answer.{Answer}
 use Rattle.claxon_recovery.specs.declared.search.Next.{Next}
+use Rattle.claxon_recovery.specs.Kept.{most_kept}
 use Rattle.claxon_recovery.specs.Parts.{IsCause, IsStep, SourceIsKnown, Stays, parts_pending, parts_position, parts_source, unread}
 use Rattle.claxon_recovery.specs.Search.{NextIsThere, NoneBefore}
 use Rattle.claxon_recovery.specs.Window.{FillIs, NothingIsLeft, ReadsOn, bytes_left, pending, window_source}
@@ -15,6 +16,7 @@ use Rattle.claxon_recovery.specs.declared.part.Cause.TheVariants.{Cut, Fault, Ot
 use Rattle.claxon_recovery.specs.declared.parts.Parts.{Parts}
 use Rattle.claxon_recovery.specs.declared.window.Window.{Window}
 use Rattle.claxon_recovery.proofs.Beginnings.{fault_longer, other_longer}
+use Rattle.claxon_recovery.proofs.Kept.{least_kept}
 use Rattle.claxon_recovery.proofs.Positions.{step_over_long, step_past, step_to_end}
 use Rattle.claxon_recovery.proofs.Reading.{reads_both, reads_none}
 
@@ -43,7 +45,7 @@ module _ {R : Type 0} (source : R → Source ℕ) where
   fill_reads wanted a b true h = h.0
   fill_reads wanted a b false h = h.0
 
-  filled : (wanted : ℕ) (a b : Window R) (full : Bool) → FillIs source wanted a b full → full ≡ true → wanted ≤ length (pending b)
+  pub filled : (wanted : ℕ) (a b : Window R) (full : Bool) → FillIs source wanted a b full → full ≡ true → wanted ≤ length (pending b)
   filled wanted a b true h e = h.1
   filled wanted a b false h e = absurd cc
 
@@ -83,7 +85,7 @@ module _ {R : Type 0} (source : R → Source ℕ) where
       pub cut_here : full ≡ false → EndsEarly info (parts_pending b) → SourceIsKnown source old → IsCause info Cut (unread source b)
       cut_here e ends known = subst (EndsEarly info) (sym (append-nil (parts_pending b)) ∙ ap (λ (l : List ℕ). parts_pending b ++ l) (sym (nothing_left e known))) ends
 
-      pub long_here : full ≡ true → wanted ≡ 524288 → EndsEarly info (parts_pending b) → IsCause info TooLong (unread source b)
+      pub long_here : full ≡ true → wanted ≡ most_kept info → EndsEarly info (parts_pending b) → IsCause info TooLong (unread source b)
       long_here e most ends = record { front = parts_pending b; rest = bytes_left (source (parts_source b)); joined = refl; long = (let n = filled wanted a.window b.window full fill e in omega (arith, n, most)); ends = ends }
 
       -- ---- steps
@@ -97,10 +99,10 @@ module _ {R : Type 0} (source : R → Source ℕ) where
       pub past_step : (to : ℕ) → full ≡ false → NoneBefore info (parts_pending b) to → to ≤ length (parts_pending b) → EndsEarly info (drop to (parts_pending b)) → SourceIsKnown source old → IsStep info (unread source b) (record { searched = to + 1; passes_next = false; is_last = false })
       past_step to e none within ends known = step_past info (parts_pending b) (bytes_left (source (parts_source b))) to none within (nothing_left e known) ends
 
-      pub long_step : (to : ℕ) → full ≡ true → wanted ≡ 524288 → to ≡ 0 → NoneBefore info (parts_pending b) to → to ≤ length (parts_pending b) → EndsEarly info (drop to (parts_pending b)) → IsStep info (unread source b) (record { searched = to; passes_next = true; is_last = false })
+      pub long_step : (to : ℕ) → full ≡ true → wanted ≡ most_kept info → to ≡ 0 → NoneBefore info (parts_pending b) to → to ≤ length (parts_pending b) → EndsEarly info (drop to (parts_pending b)) → IsStep info (unread source b) (record { searched = to; passes_next = true; is_last = false })
       long_step to e most zero none within ends =
           let n = filled wanted a.window b.window full fill e in
           step_over_long info (parts_pending b) (bytes_left (source (parts_source b))) to none within ends (let l = length-drop to (parts_pending b) in omega (arith, l, n, most, zero))
 
-      pub long_count : (to : ℕ) → full ≡ true → wanted ≡ 524288 → to ≡ 0 → to + 1 ≤ length (parts_pending b)
-      long_count to e most zero = let n = filled wanted a.window b.window full fill e in omega (arith, n, most, zero)
+      pub long_count : (to : ℕ) → full ≡ true → wanted ≡ most_kept info → to ≡ 0 → to + 1 ≤ length (parts_pending b)
+      long_count to e most zero = let n = filled wanted a.window b.window full fill e in let some = least_kept info in omega (arith, n, most, zero, some)

@@ -1,7 +1,11 @@
+pub mod Kept
 pub mod AtStart
+pub mod Budget
 pub mod Search
+pub mod Charges
 pub mod Window
 pub mod Passed
 pub mod Steps
 pub mod Stream
 pub mod Parts
+pub mod Runs

@@ -44,9 +44,11 @@ use Rattle.claxon_recovery.specs.AtStart.{
   StreamFrame,
   StreamFrameCode,
 }
+use Rattle.claxon_recovery.specs.Budget.{CountsUnsearched, unsearched_positions}
+use Rattle.claxon_recovery.specs.Kept.{most_kept}
 use Rattle.claxon_recovery.specs.Passed.{AreFirstOf, IsOfBytes}
 use Rattle.claxon_recovery.specs.Search.{BeginsWithStreamHeader}
-use Rattle.claxon_recovery.specs.Steps.{step_count, step_unsearched}
+use Rattle.claxon_recovery.specs.Steps.{first_step, step_count, step_unsearched}
 use Rattle.claxon_recovery.specs.Stream.{stream_info}
 use Rattle.claxon_recovery.specs.Window.{
   Fails,
@@ -56,6 +58,7 @@ use Rattle.claxon_recovery.specs.Window.{
   pending,
   window_source,
 }
+use Rattle.claxon_recovery.specs.declared.budget.Budget.{Budget}
 use Rattle.claxon_recovery.specs.declared.part.Cause.{Cause}
 use Rattle.claxon_recovery.specs.declared.part.Cause.TheVariants.{
   Cut,
@@ -98,6 +101,10 @@ parts_position p = p.position
 abbrev pub parts_memory : {R : Type 0} → Parts R → BlockMemory
 parts_memory p = p.memory
 
+-- what tries in vain cost, and how many positions weren't searched
+abbrev pub parts_budget : {R : Type 0} → Parts R → Budget
+parts_budget p = p.budget
+
 -- what remains of the stream: what was read ahead, and then what the source has
 abbrev pub unread : {R : Type 0} → (R → Source ℕ) → Parts R → List ℕ
 unread source p = parts_pending p ++ bytes_left (source (parts_source p))
@@ -117,12 +124,12 @@ pub record BeginsParts {R : Type 0} (source : R) (info : StreamInfo) (position :
 -- ---- where frames begin
 
 module _ (info : StreamInfo) where
-  -- The first 524,288 bytes end within what may be a frame of the stream.
+  -- The first bytes, as many as are kept, end within what may be a frame of the stream.
   pub record IsTooLong (s : List ℕ) : Type 0 where
     pub front : List ℕ
     pub rest : List ℕ
     pub joined : s ≡ front ++ rest
-    pub long : 524288 ≤ length front
+    pub long : most_kept info ≤ length front
     pub ends : EndsEarly info front
 
   -- It may be passed unsearched: a frame header stands there, or the frame would be too long.
@@ -234,13 +241,13 @@ module _ {R : Type 0} (source : R → Source ℕ) (old new : Parts R) where
       Goes (λ s m. IsPart (parts_info old) (parts_position old) s m found)
       × (parts_position new ≡ after_part (parts_position old) found))
 
-  -- If a frame of the stream of at most 524,288 bytes comes next, that is answered, and it alone is
-  -- passed, or there is an Err.
+  -- If a frame of the stream comes next, of no more bytes than are kept, that is answered, and it
+  -- alone is passed, or there is an Err.
   abbrev pub FrameIsFound : Result (Option Part) Error → Type 0
   FrameIsFound result = IfOk result (λ found.
       SourceIsKnown source old → (value : FrameValue) (t rest : List ℕ)
       → StreamFrameCode (parts_info old) value t → unread source old ≡ t ++ rest
-      → length t ≤ 524288 → IsFrameOf value found × (unread source new ≡ rest))
+      → length t ≤ most_kept (parts_info old) → IsFrameOf value found × (unread source new ≡ rest))
 
   -- An Err says that memory was refused, that a read failed, or that too many bytes are no frame.
   abbrev pub PartErrIsExcused : Result (Option Part) Error → Type 0
@@ -275,6 +282,37 @@ module _ {R : Type 0} (source : R → Source ℕ) (old new : Parts R) where
       × (parts_position new ≡ damage.end)
   DamageGives cause (Err e) = PartStops e
 
+-- ---- positions that aren't searched
+
+module _ {R : Type 0} (old new : Parts R) where
+  -- So many more positions are counted that weren't searched.
+  abbrev pub Unsearched : ℕ → Type 0
+  Unsearched n = CountsUnsearched n (parts_budget old) (parts_budget new)
+
+  -- Each position of damage that isn't searched is counted by the budget: it had no more for the
+  -- header there, or no more bytes are kept.
+  abbrev pub PartIsCounted : Option Part → Type 0
+  PartIsCounted (Some (DamagePart damage)) = Unsearched damage.unsearched
+  PartIsCounted (Some (FramePart there)) = Unsearched 0
+  PartIsCounted None = Unsearched 0
+
+  abbrev pub UnsearchedIsCounted : Result (Option Part) Error → Type 0
+  UnsearchedIsCounted result = IfOk result PartIsCounted
+
+  abbrev pub HereIsCounted : Here → Type 0
+  HereIsCounted (NoFrame cause) = Unsearched (step_unsearched (first_step cause) 0)
+  HereIsCounted (Frame len frame) = Unsearched 0
+  HereIsCounted End = Unsearched 0
+
+  abbrev pub StepIsCounted : Step → Type 0
+  StepIsCounted step = Unsearched (step_unsearched step 0)
+
+  -- The first one was counted before, if it wasn't searched.
+  abbrev pub DamageIsCounted : Cause → Damage → Type 0
+  DamageIsCounted cause damage =
+      (unsearched_positions (parts_budget new) + step_unsearched (first_step cause) 0) % 2 ^ 64
+      ≡ (unsearched_positions (parts_budget old) + damage.unsearched) % 2 ^ 64
+
 -- The stream is the same.
 abbrev pub KeepsStream : {R : Type 0} → Parts R → Parts R → Type 0
 KeepsStream old new = parts_info new ≡ parts_info old
@@ -284,6 +322,7 @@ pub record PassesBytes {R : Type 0} (count : ℕ) (old new : Parts R) : Type 0 w
   pub pending_is : parts_pending new ≡ drop count (parts_pending old)
   pub source_is : parts_source new ≡ parts_source old
   pub memory_is : parts_memory new ≡ parts_memory old
+  pub searched : unsearched_positions (parts_budget new) ≡ unsearched_positions (parts_budget old)
   pub position_is : parts_position new ≡ (parts_position old + count) % 2 ^ 64
 
 -- These bytes of the step were passed.

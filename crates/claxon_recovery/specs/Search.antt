@@ -1,5 +1,5 @@
 -- What a search for the next frame in bytes answers.
-use Rattle.std.specs.Prelude.{◌<◌, ◌≤◌, ◌*◌, ℕ, List, length, drop, Some, None, Result, Ok, Err}
+use Rattle.std.specs.Prelude.{◌-◌, ◌<◌, ◌≤◌, ℕ, List, length, drop, Some, None, Result, Ok, Err}
 use Rattle.claxon.specs.BlockInfos.{BlockInfo}
 use Rattle.claxon.specs.Errors.{Error}
 use Rattle.claxon.specs.Promises.{IsOutOfMemory}
@@ -10,6 +10,8 @@ use Rattle.claxon_recovery.specs.AtStart.{
   EndsEarly,
   NoFrameWhateverFollows,
 }
+use Rattle.claxon_recovery.specs.Budget.{block_samples}
+use Rattle.claxon_recovery.specs.declared.budget.TheConstants.{MAX_WASTED}
 use Rattle.claxon_recovery.specs.declared.search.Next.{Next}
 use Rattle.claxon_recovery.specs.declared.search.Next.TheVariants.{Frame, OverBudget, Undecided}
 use Rattle.claxon_recovery.specs.declared.search.Tried.{Tried}
@@ -36,10 +38,10 @@ module _ (info : StreamInfo) where
 
   -- What the bytes begin with.
   abbrev pub TriedIsThere : List ℕ → ℕ → Result Tried Error → Type 0
-  TriedIsThere bytes budget (Ok Whole) = BeginsWithStreamFrame info bytes
-  TriedIsThere bytes budget (Ok NoFrame) = NoFrameWhateverFollows info bytes
-  TriedIsThere bytes budget (Ok Cut) = EndsEarly info bytes
-  TriedIsThere bytes budget (Ok Unpaid) =
+  TriedIsThere bytes wasted (Ok Whole) = BeginsWithStreamFrame info bytes
+  TriedIsThere bytes wasted (Ok NoFrame) = NoFrameWhateverFollows info bytes
+  TriedIsThere bytes wasted (Ok Cut) = EndsEarly info bytes
+  TriedIsThere bytes wasted (Ok Unpaid) =
       (block : BlockInfo) × WantedHeader (Some info) None bytes block
-      × (budget < block.channels * block.duration)
-  TriedIsThere bytes budget (Err e) = IsOutOfMemory {A = Tried} (Err e)
+      × (MAX_WASTED - wasted < block_samples block)
+  TriedIsThere bytes wasted (Err e) = IsOutOfMemory {A = Tried} (Err e)

@@ -24,6 +24,10 @@ use Rattle.claxon_recovery.specs.declared.window.Window.{Window}
 abbrev pub pending : {R : Type 0} → Window R → List ℕ
 pending w = drop w.taken w.bytes.items
 
+-- how many bytes are kept at most
+abbrev pub most_pending : {R : Type 0} → Window R → ℕ
+most_pending w = w.most
+
 -- the source
 abbrev pub window_source : {R : Type 0} → Window R → R
 window_source w = w.source

@@ -1,11 +1,14 @@
 //! What bytes in memory begin with: a frame of the stream, or none.
-ghost use Rattle.std.specs.Prelude.{◌↔◌, IsTrue, Some};
+ghost use Rattle.std.specs.Prelude.{◌↔◌, IfOk, IsTrue, Some, length};
 ghost use Rattle.claxon.specs.ShownHead.{HasBitDepth};
-ghost use Rattle.claxon_seek.specs.AtStart.{HeaderIsThere};
+ghost use Rattle.claxon_seek.specs.AtStart.{HeaderIsThere, said_by};
 ghost use Rattle.claxon_seek.specs.BlockMemory.{MemoryIsCounted};
 ghost use Rattle.claxon_seek.specs.Find.{HasFormat, known_format};
 ghost use Rattle.claxon_recovery.specs.AtStart.{AnswerIsThere, FrameStands, HeaderStands};
+ghost use Rattle.claxon_recovery.specs.Budget.{CountsUnsearched, block_samples};
+ghost use Rattle.claxon_recovery.specs.Charges.{RestIsCharged};
 
+use crate::budget::Budget;
 use crate::part::Cause;
 use claxon::frame::{Block, BlockInfo, DecodedFrame};
 use claxon::metadata::StreamInfo;
@@ -46,15 +49,18 @@ pub(crate) enum Answer {
     Undecided,
 }
 
-// What the bytes begin with.
+// What the bytes begin with. It is tried whatever is left of the budget.
+#[tactic(auto, using(crate::proofs::Charges::rest_searched))]
 pub(crate) fn frame_at_start(
     memory: &mut BlockMemory,
     bytes: &[u8],
     info: StreamInfo,
+    budget: &mut Budget,
 ) -> Result<Answer>
     requires { HasBitDepth info }
     ensures is_there { AnswerIsThere info bytes.now result }
     ensures memory_is_counted { MemoryIsCounted result memory.old memory.new }
+    ensures searched { IfOk result (λ _. CountsUnsearched 0 budget.old budget.new) }
 {
     let header = match header_here(bytes, info) {
         Ok(header) => header,
@@ -62,7 +68,7 @@ pub(crate) fn frame_at_start(
         Err(NoHeader::Faulty(error)) => return Ok(Answer::NoFrame(Cause::Fault(error))),
         Err(NoHeader::CutHeader) => return Ok(Answer::Undecided),
     };
-    match rest_here(memory, bytes, info, header)? {
+    match charged_rest(memory, bytes, info, header, budget)? {
         RestHere::Whole(len, block) => {
             let info = header.info();
             Ok(Answer::Found(len, DecodedFrame { info, block }))
@@ -100,8 +106,40 @@ fn has_format(block: &BlockInfo, info: StreamInfo) -> bool
     block.channels == info.channels && block.bit_depth == info.bits_per_sample
 }
 
+// The frame whose header the bytes begin with. A try that leads to none is charged.
+pub(crate) fn charged_rest(
+    memory: &mut BlockMemory,
+    bytes: &[u8],
+    info: StreamInfo,
+    header: HeaderInBytes,
+    budget: &mut Budget,
+) -> Result<RestHere>
+    requires depth { HasBitDepth info }
+    requires is_there { HeaderIsThere (known_format (Some info)) bytes.now header }
+    ensures stands { FrameStands info bytes.now result }
+    ensures memory_is_counted { MemoryIsCounted result memory.old memory.new }
+    ensures is_charged { IfOk result (λ rest. RestIsCharged (block_samples (said_by header))
+        (length bytes.now) rest budget.old budget.new) }
+{
+    let rest = rest_here(memory, bytes, info, header)?;
+    charge(budget, header, bytes.len(), &rest);
+    Ok(rest)
+}
+
+// Charges a try among so many bytes, if it led to no frame: the bytes of the fault, or all.
+fn charge(budget: &mut Budget, header: HeaderInBytes, size: usize, rest: &RestHere)
+    ensures is_charged { RestIsCharged (block_samples (said_by header)) size rest.now
+        budget.old budget.new }
+{
+    match rest {
+        RestHere::Whole(_, _) => {}
+        RestHere::Broken(len, _) => budget.charge(header, *len),
+        RestHere::CutFrame => budget.charge(header, size),
+    }
+}
+
 // The frame whose header the bytes begin with.
-pub(crate) fn rest_here(
+fn rest_here(
     memory: &mut BlockMemory,
     bytes: &[u8],
     info: StreamInfo,

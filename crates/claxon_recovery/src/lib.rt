@@ -6,12 +6,14 @@
 //! decoder's error for its first byte, or another cause, and ends where the next frame begins. So what is found of a stream,
 //! part by part, is a fold over these answers: a frame counts its samples, and damage is one fault.
 //!
-//! The next bytes of the source are kept in memory, up to 512 KiB: a frame that is longer is told as damage (`Cause::TooLong`).
-//! Bytes are decoded from there, so after a fault the search begins at the fault's second byte, and nothing is read twice from
-//! the source.
+//! The next bytes of the source are kept in memory: up to 512 KiB, or as many as a verbatim frame of the streaminfo's largest
+//! block may have. A frame that is longer, as encoders make none, is told as damage (`Cause::TooLong`). Bytes are decoded from
+//! there, so after a fault the search begins at the fault's second byte, and nothing is read twice from the source.
 #![tactic(auto)]
 
 mod at_start;
+mod budget;
+pub mod laws;
 mod part;
 mod parts;
 mod passed;

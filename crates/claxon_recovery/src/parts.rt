@@ -14,14 +14,18 @@ ghost use Rattle.std.specs.Prelude.{
 };
 ghost use Rattle.claxon.specs.Error.{is_out_of_memory};
 ghost use Rattle.claxon.specs.ShownHead.{HasBitDepth};
+ghost use Rattle.claxon_recovery.specs.Kept.{most_kept};
 ghost use Rattle.claxon_recovery.specs.Steps.{first_step, step_count};
+ghost use Rattle.claxon_recovery.specs.Stream.{stream_info};
+ghost use Rattle.claxon_recovery.specs.Window.{most_pending};
 
 use crate::at_start::{Answer, frame_at_start};
+use crate::budget::Budget;
 use crate::part::{Cause, Damage, FrameThere, Part};
 use crate::passed::Passed;
 use crate::search::{Next, next_frame};
 use crate::stream::Stream;
-use crate::window::{MAX_KEPT, Window};
+use crate::window::Window;
 use claxon::frame::DecodedFrame;
 use claxon::input::ReadBytes;
 use claxon::metadata::StreamInfo;
@@ -31,12 +35,6 @@ use std::alloc::Global;
 
 // How many bytes are read at first.
 const USUAL: usize = 64 * 1024;
-
-// How many samples the blocks of headers may have that lead to no frame, and how many more for each byte that is passed. So the
-// time is linear in the bytes.
-const MAX_WASTED: u64 = 1 << 25;
-
-const WASTED_OF_A_BYTE: u64 = 4;
 
 /// The parts of a stream whose head was read.
 ///
@@ -56,10 +54,10 @@ pub struct Parts<R> {
     memory: BlockMemory,
     // The position of the first pending byte, modulo 2^64.
     position: u64,
-    // How many samples may be decoded in vain.
-    budget: u64,
+    budget: Budget,
     // How many bytes are read before a frame is decoded.
     usual: usize,
+    ghost most: { most_pending window ≡ most_kept (stream_info stream) },
 }
 
 // What stands at a position.
@@ -103,15 +101,19 @@ impl<R: ReadBytes> Parts<R> {
     ghost use Rattle.claxon_recovery.specs.Parts.{
       BeginsParts,
       DamageGives,
+      DamageIsCounted,
       FrameIsFound,
       HereGives,
+      HereIsCounted,
       KeepsStream,
       PartErrIsExcused,
       PartGives,
       PartIsThere,
       PassesBytes,
       StepGives,
+      StepIsCounted,
       TakesStep,
+      UnsearchedIsCounted,
       parts_memory,
       parts_pending,
       parts_position,
@@ -129,21 +131,23 @@ impl<R: ReadBytes> Parts<R> {
         ensures begins { IfOk result (BeginsParts source info position) }
         ensures err { IfErr result (λ e. e ≡ Error.OutOfMemory) }
     {
+        let stream = Stream::new(info);
         Ok(Parts {
-            window: Window::new(alloc, source)?,
-            stream: Stream::new(info),
+            window: Window::new(alloc, source, stream.most_kept())?,
+            stream,
             memory: BlockMemory::new(alloc),
             position,
-            budget: MAX_WASTED,
+            budget: Budget::new(),
             usual: USUAL,
         })
     }
 
     /// The next part; None at the end. A part begins after the one before it, the first one at the position that was passed in.
     ///
-    /// A frame is decoded where it has no more than 512 KiB. Damage goes up to the next frame, which is searched from its
-    /// second byte on, within a budget: where very many headers lead to no frame, as in bytes that were made on purpose,
-    /// further ones are passed unsearched, and counted. So the time is linear in the bytes.
+    /// A frame is decoded where it has no more than 512 KiB, or no more bytes than a verbatim frame of the streaminfo's largest
+    /// block may have. Damage goes up to the next frame, which is searched from its second byte on, within a budget: where very
+    /// many headers lead to no frame, as in bytes that were made on purpose, further ones are passed unsearched, and counted.
+    /// So the time is linear in the bytes.
     ///
     /// # Errors
     ///
@@ -153,6 +157,7 @@ impl<R: ReadBytes> Parts<R> {
         ensures part_is_there { PartIsThere R.source self.old self.new result }
         ensures frame_is_found { FrameIsFound R.source self.old self.new result }
         ensures err_is_excused { PartErrIsExcused R.source self.old self.new result }
+        ensures unsearched_is_counted { UnsearchedIsCounted self.old self.new result }
         ensures memory_is_counted { MemoryIsCounted result
             (parts_memory self.old) (parts_memory self.new) }
         ensures keeps_stream { KeepsStream self.old self.new }
@@ -163,6 +168,7 @@ impl<R: ReadBytes> Parts<R> {
     // `next_part`, with one clause of what it answers.
     fn next_part_exact(&mut self) -> Result<Option<Part>>
         ensures gives { PartGives R.source self.old self.new result }
+        ensures is_counted { UnsearchedIsCounted self.old self.new result }
         ensures memory_is_counted { MemoryIsCounted result
             (parts_memory self.old) (parts_memory self.new) }
         ensures keeps_stream { KeepsStream self.old self.new }
@@ -174,28 +180,32 @@ impl<R: ReadBytes> Parts<R> {
         }
     }
 
-    // What stands at the position. As many bytes are read as it takes to tell, up to `MAX_KEPT`.
+    // What stands at the position. As many bytes are read as it takes to tell, up to those that are kept.
     fn part_here(&mut self) -> Result<Here>
         ensures gives { HereGives R.source self.old self.new result }
+        ensures is_counted { IfOk result (λ here. HereIsCounted self.old self.new here) }
         ensures memory_is_counted { MemoryIsCounted result
             (parts_memory self.old) (parts_memory self.new) }
         ensures keeps_stream { KeepsStream self.old self.new }
     {
         let info = self.stream.info();
-        let mut wanted = self.usual.clamp(USUAL, MAX_KEPT);
+        let most = self.stream.most_kept();
+        let mut wanted = self.usual.clamp(USUAL, most);
         loop {
             let is_full = self.window.fill(wanted)?;
-            if self.window.pending().is_empty() {
+            let bytes = self.window.pending();
+            if bytes.is_empty() {
                 return Ok(Here::End);
             }
-            match frame_at_start(&mut self.memory, self.window.pending(), info)? {
+            match frame_at_start(&mut self.memory, bytes, info, &mut self.budget)? {
                 Answer::Found(len, frame) => return Ok(Here::Frame(len, frame)),
                 Answer::NoFrame(cause) => return Ok(Here::NoFrame(cause)),
                 Answer::Undecided if !is_full => return Ok(Here::NoFrame(Cause::Cut)),
-                Answer::Undecided if wanted == MAX_KEPT => {
+                Answer::Undecided if wanted == most => {
+                    self.budget.pass_long(bytes, info);
                     return Ok(Here::NoFrame(Cause::TooLong));
                 }
-                Answer::Undecided => wanted = (2 * wanted).min(MAX_KEPT),
+                Answer::Undecided => wanted = (2 * wanted).min(most),
             }
         }
     }
@@ -229,14 +239,14 @@ impl<R: ReadBytes> Parts<R> {
     {
         self.window.pass(count);
         self.position = self.position.wrapping_add(count as u64);
-        let paid = (count as u64).saturating_mul(WASTED_OF_A_BYTE);
-        self.budget = self.budget.saturating_add(paid).min(MAX_WASTED);
+        self.budget.make_good(count);
     }
 
     // Passes the damage that begins at the position, if no frame stands there for this cause.
     fn damage(&mut self, cause: Cause) -> Result<Damage>
         requires { 1 ≤ length (parts_pending self.old) }
         ensures gives { DamageGives R.source self.old self.new cause result }
+        ensures is_counted { IfOk result (λ damage. DamageIsCounted self.old self.new cause damage) }
         ensures memory_is_counted { MemoryIsCounted result
             (parts_memory self.old) (parts_memory self.new) }
         ensures keeps_stream { KeepsStream self.old self.new }
@@ -281,11 +291,13 @@ impl<R: ReadBytes> Parts<R> {
     // The next positions at which no frame begins.
     fn search(&mut self) -> Result<Step>
         ensures gives { StepGives R.source self.old self.new result }
+        ensures is_counted { IfOk result (λ step. StepIsCounted self.old self.new step) }
         ensures memory_is_counted { MemoryIsCounted result
             (parts_memory self.old) (parts_memory self.new) }
         ensures keeps_stream { KeepsStream self.old self.new }
     {
         let info = self.stream.info();
+        let most = self.stream.most_kept();
         let mut wanted = USUAL;
         loop {
             let is_full = self.window.fill(wanted)?;
@@ -297,8 +309,11 @@ impl<R: ReadBytes> Parts<R> {
                 Next::Undecided(at) if !is_full && at == len => return Ok(last_step(at)),
                 Next::Undecided(at) if !is_full => return Ok(searched_step(at + 1)),
                 Next::Undecided(at) if at > 0 => return Ok(searched_step(at)),
-                Next::Undecided(at) if wanted == MAX_KEPT => return Ok(passed_step(at)),
-                Next::Undecided(_) => wanted = (2 * wanted).min(MAX_KEPT),
+                Next::Undecided(at) if wanted == most => {
+                    self.budget.pass_long(bytes, info);
+                    return Ok(passed_step(at));
+                }
+                Next::Undecided(_) => wanted = (2 * wanted).min(most),
             }
         }
     }

@@ -1,9 +1,13 @@
 //! A search for the next frame in bytes that are in memory.
+ghost use Rattle.std.specs.Prelude.{◌≡◌, IfOk};
 ghost use Rattle.claxon.specs.ShownHead.{HasBitDepth};
 ghost use Rattle.claxon_seek.specs.BlockMemory.{MemoryIsCounted};
+ghost use Rattle.claxon_recovery.specs.Budget.{wasted_work};
+ghost use Rattle.claxon_recovery.specs.Charges.{NextIsCounted, TriedIsCounted, tried_of};
 ghost use Rattle.claxon_recovery.specs.Search.{NextIsThere, TriedIsThere};
 
-use crate::at_start::{NoHeader, RestHere, header_here, rest_here};
+use crate::at_start::{NoHeader, RestHere, charged_rest, header_here};
+use crate::budget::Budget;
 use claxon::Result;
 use claxon::metadata::StreamInfo;
 use claxon_seek::{BlockMemory, shows_no_header};
@@ -37,11 +41,12 @@ pub(crate) fn next_frame(
     memory: &mut BlockMemory,
     bytes: &[u8],
     info: StreamInfo,
-    budget: &mut u64,
+    budget: &mut Budget,
 ) -> Result<Next>
     requires { HasBitDepth info }
     ensures is_there { NextIsThere info bytes.now result }
     ensures memory_is_counted { MemoryIsCounted result memory.old memory.new }
+    ensures is_counted { IfOk result (λ next. NextIsCounted next budget.old budget.new) }
 {
     for position in 0..bytes.len() {
         let rest = &bytes[position..];
@@ -58,18 +63,18 @@ pub(crate) fn next_frame(
     Ok(Next::Undecided(bytes.len()))
 }
 
-// What the bytes begin with. The samples of a block whose header is there are taken from the budget, and the bytes of a frame
-// that was read in vain. So the time is linear in the bytes and the budget.
+// What the bytes begin with. It is tried within the budget.
 #[inline(never)]
 fn try_frame(
     memory: &mut BlockMemory,
     bytes: &[u8],
     info: StreamInfo,
-    budget: &mut u64,
+    budget: &mut Budget,
 ) -> Result<Tried>
     requires { HasBitDepth info }
-    ensures is_there { TriedIsThere info bytes.now budget.old result }
+    ensures is_there { TriedIsThere info bytes.now (wasted_work budget.old) result }
     ensures memory_is_counted { MemoryIsCounted result memory.old memory.new }
+    ensures is_counted { IfOk result (λ tried. TriedIsCounted tried budget.old budget.new) }
 {
     let header = match header_here(bytes, info) {
         Ok(header) => header,
@@ -77,21 +82,20 @@ fn try_frame(
         Err(NoHeader::Faulty(_)) => return Ok(Tried::NoFrame),
         Err(NoHeader::CutHeader) => return Ok(Tried::Cut),
     };
-    let block = header.info();
-    let samples = u64::from(block.channels) * u64::from(block.duration);
-    if samples > *budget {
+    if !budget.request(header) {
         return Ok(Tried::Unpaid);
     }
-    *budget -= samples;
-    match rest_here(memory, bytes, info, header)? {
-        RestHere::Whole(_, _) => Ok(Tried::Whole),
-        RestHere::Broken(len, _) => {
-            *budget = (*budget).saturating_sub(len as u64);
-            Ok(Tried::NoFrame)
-        }
-        RestHere::CutFrame => {
-            *budget = (*budget).saturating_sub(bytes.len() as u64);
-            Ok(Tried::Cut)
-        }
+    let rest = charged_rest(memory, bytes, info, header, budget)?;
+    Ok(tried_of(&rest))
+}
+
+// What is known of a position with this rest of a frame.
+fn tried_of(rest: &RestHere) -> Tried
+    ensures { result ≡ tried_of rest.now }
+{
+    match rest {
+        RestHere::Whole(_, _) => Tried::Whole,
+        RestHere::Broken(_, _) => Tried::NoFrame,
+        RestHere::CutFrame => Tried::Cut,
     }
 }

@@ -1,8 +1,15 @@
 //! What frames are compared with.
-ghost use Rattle.std.specs.Prelude.{◌≡◌, ◌≤◌};
+ghost use Rattle.std.specs.Prelude.{◌≡◌, ◌+◌, ◌*◌, ◌/◌, ◌≤◌, min};
 ghost use Rattle.claxon.specs.ShownHead.{HasBitDepth};
+ghost use Rattle.claxon_recovery.specs.Kept.{most_kept};
 
 use claxon::metadata::StreamInfo;
+
+// How many bytes are kept of a stream whose frames are small.
+const LEAST_KEPT: usize = 512 * 1024;
+
+// How many bytes are kept at most of any stream.
+const MOST_KEPT: usize = 4 * 1024 * 1024;
 
 // A streaminfo, with its bit depth within bounds.
 #[derive(Drop)]
@@ -28,4 +35,24 @@ impl Stream {
     {
         self.info
     }
+
+    // How many bytes are kept at most.
+    pub fn most_kept(&self) -> usize
+        ensures is { result ≡ most_kept (stream_info self.now) }
+        ensures least { 524288 ≤ result }
+        ensures most { result ≤ 4194304 }
+    {
+        let info = self.info;
+        let len = verbatim_len(info.max_block_size, info.channels, info.bits_per_sample);
+        len.min(MOST_KEPT).max(LEAST_KEPT)
+    }
+}
+
+// The most bytes of a frame of so many samples and channels whose subframes are verbatim. A side channel has one bit more.
+fn verbatim_len(samples: u16, channels: u32, bit_depth: u32) -> usize
+    requires { bit_depth ≤ 32 }
+    ensures { result ≡ 18 + min channels 8 * (2 + samples * (bit_depth + 1) / 8) }
+{
+    let bits = samples as usize * (bit_depth as usize + 1);
+    18 + channels.min(8) as usize * (2 + bits / 8)
 }

@@ -2,6 +2,7 @@ use Rattle.std.proofs.Common.{◌∙◌, subst, arith}
 use Rattle.claxon_seek.proofs.Searches.{rest_is}
 use Rattle.claxon_recovery.specs.AtStart.{BeginsWithStreamFrame, EndsEarly, NoFrameWhateverFollows}
 use Rattle.claxon_recovery.proofs.Beginnings.{shown_is_none}
+use Rattle.claxon_recovery.proofs.Charges.{counts_both}
 use Rattle.claxon_recovery.proofs.Positions.{ends_at_end, one_more}
 use Rattle.claxon_recovery.proofs.search.next_frame.Goals as goal
 
@@ -13,6 +14,7 @@ loop-position-preserved-then-shows_no_header c =
     record {
       none = one_more info bytes at c.loop-position.invariant.none (subst (NoFrameWhateverFollows info) (rest_is bytes at) (shown_is_none info _ (c.shows_no_header.ensures.no_header c.if-shows_no_header.true)));
       memory = c.loop-position.invariant.memory;
+      counted = c.loop-position.invariant.counted;
     }
 
 pub returns-in-Whole-clause-is_there : goal.returns-in-Whole-clause-is_there
@@ -30,6 +32,7 @@ loop-position-preserved c =
     record {
       none = one_more info bytes at c.loop-position.invariant.none (subst (NoFrameWhateverFollows info) (rest_is bytes at) (rw c.in-NoFrame.is at c.in_ok-try_frame.ensures.is_there));
       memory = c.try_frame.ensures.memory_is_counted.granted (λ m. let k = c.in_ok-try_frame.was in cc) ∙ c.loop-position.invariant.memory;
+      counted = counts_both 0 _ _ _ c.loop-position.invariant.counted (rw c.in-NoFrame.is at c.in_ok-try_frame.ensures.is_counted);
     }
 
 pub returns-in-Cut-clause-is_there : goal.returns-in-Cut-clause-is_there
@@ -45,3 +48,12 @@ returns-clause-is_there c = (
   omega arith,
   ends_at_end c.args.info c.args.bytes.now,
 )
+
+pub returns-in-Whole-clause-is_counted : goal.returns-in-Whole-clause-is_counted
+returns-in-Whole-clause-is_counted c = counts_both 0 _ _ _ c.loop-position.invariant.counted (rw c.in-Whole.is at c.in_ok-try_frame.ensures.is_counted)
+
+pub returns-in-Cut-clause-is_counted : goal.returns-in-Cut-clause-is_counted
+returns-in-Cut-clause-is_counted c = counts_both 0 _ _ _ c.loop-position.invariant.counted (rw c.in-Cut.is at c.in_ok-try_frame.ensures.is_counted)
+
+pub returns-in-Unpaid-clause-is_counted : goal.returns-in-Unpaid-clause-is_counted
+returns-in-Unpaid-clause-is_counted c = counts_both 1 _ _ _ c.loop-position.invariant.counted (rw c.in-Unpaid.is at c.in_ok-try_frame.ensures.is_counted)

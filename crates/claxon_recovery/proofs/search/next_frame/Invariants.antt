@@ -1,4 +1,5 @@
 use Rattle.std.proofs.Common.{◌≡◌}
+use Rattle.claxon_recovery.specs.Budget.{CountsUnsearched}
 use Rattle.claxon_recovery.specs.Search.{NoneBefore}
 use Rattle.claxon_recovery.proofs.search.next_frame.Given as goal
 
@@ -6,4 +7,5 @@ abbrev pub invariant-loop-position : goal.invariant-loop-position
 invariant-loop-position l = record {
   none : NoneBefore l.info l.bytes l.position;
   memory : l.memory ≡ l.fn.memory;
+  counted : CountsUnsearched 0 l.fn.budget l.budget;
 }

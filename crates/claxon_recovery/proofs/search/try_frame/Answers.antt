@@ -1,7 +1,6 @@
-use Rattle.std.proofs.Common.{inr}
-use Rattle.claxon_recovery.proofs.Beginnings.{fault_is_none, fault_of_header, fault_of_rest, other_is_none, whole_is_frame}
+use Rattle.claxon_recovery.proofs.Beginnings.{fault_is_none, fault_of_header, other_is_none}
+use Rattle.claxon_recovery.proofs.Charges.{counts_both, granted, over_budget, rest_searched, tried_counts, tried_there}
 use Rattle.claxon_recovery.proofs.search.try_frame.Goals as goal
-use Rattle.claxon_recovery.proofs.search.try_frame.Goals.{in-Whole, in-Broken, in-CutFrame}
 
 pub returns-in-Err-Other-clause-is_there : goal.returns-in-Err-Other-clause-is_there
 returns-in-Err-Other-clause-is_there c = other_is_none c.args.info c.in-Err-Other.field-0-0 c.args.bytes.now (rw c.in-Err-Other.field-0-is at c.in-Err-Other.ensures.stands)
@@ -9,13 +8,14 @@ returns-in-Err-Other-clause-is_there c = other_is_none c.args.info c.in-Err-Othe
 pub returns-in-Err-Faulty-clause-is_there : goal.returns-in-Err-Faulty-clause-is_there
 returns-in-Err-Faulty-clause-is_there c = fault_is_none c.args.info c.requires _ c.args.bytes.now (fault_of_header c.args.info _ c.args.bytes.now (rw c.in-Err-Faulty.field-0-is at c.in-Err-Faulty.ensures.stands))
 
+pub returns-then-not-request-clause-is_there : goal.returns-then-not-request-clause-is_there
+returns-then-not-request-clause-is_there c = (_, c.in-Ok.ensures.stands.0, (over_budget _ c.request.result _ _ c.if-not-request.true c.request.ensures.is_answered).0)
+
+pub returns-then-not-request-clause-is_counted : goal.returns-then-not-request-clause-is_counted
+returns-then-not-request-clause-is_counted c = (over_budget _ c.request.result _ _ c.if-not-request.true c.request.ensures.is_answered).1
+
 pub returns-clause-is_there : goal.returns-clause-is_there
-returns-clause-is_there c =
-    let info = c.args.info in
-    let bytes = c.args.bytes.now in
-    let stands = c.in_ok-len.ensures.stands in
-    elim c.match-branch-2.branch [
-      | in-Whole w ↦ rw w.result-is (whole_is_frame info bytes _ w.in-Whole.field-1 _ c.in-Ok.ensures.stands.0 (rw w.in-Whole.is at stands))
-      | in-Broken w ↦ rw w.result-is (fault_is_none info c.requires _ bytes (fault_of_rest info _ bytes _ (rw w.in-Broken.is at stands)))
-      | in-CutFrame w ↦ rw w.result-is (inr (inr (rw w.in-CutFrame.is at stands)))
-    ]
+returns-clause-is_there c = rw c.tried_of.ensures (tried_there c.args.info c.requires c.args.bytes.now _ _ c.in_ok-rest.rest c.in-Ok.ensures.stands.0 c.in_ok-rest.ensures.stands)
+
+pub returns-clause-is_counted : goal.returns-clause-is_counted
+returns-clause-is_counted c = rw c.tried_of.ensures (tried_counts c.in_ok-rest.rest c.args.budget.now c.charged_rest.new.budget (counts_both 0 _ _ _ (granted _ c.request.result _ _ c.if-not-request.false c.request.ensures.is_answered) (rest_searched _ _ c.in_ok-rest.rest _ _ c.in_ok-rest.ensures.is_charged)))
