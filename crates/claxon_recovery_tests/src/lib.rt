@@ -2,4 +2,12 @@
 #![tactic(auto)]
 
 #[cfg(test)]
+mod budget;
+#[cfg(test)]
+mod failing;
+#[cfg(test)]
+mod frames;
+#[cfg(test)]
+mod long_frames;
+#[cfg(test)]
 mod parts;

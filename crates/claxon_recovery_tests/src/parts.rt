@@ -5,9 +5,9 @@ use claxon_recovery::{Cause, Damage, Part, Parts};
 use std::alloc::Global;
 use std::io::Cursor;
 
-// Two frames, one after another.
+/// Two frames, one after another.
 #[rattlefmt::skip]
-const FRAMES: [u8; 22] = [
+pub const FRAMES: [u8; 22] = [
     0xff, 0xf8, 0x69, 0x02, 0x00, 0x0f, 0xb7, 0x00, 0x01, 0x7a, 0x27,
     0xff, 0xf8, 0x69, 0x02, 0x01, 0x0f, 0xa2, 0x00, 0x02, 0x7b, 0x51,
 ];
@@ -17,7 +17,8 @@ const FRAMES: [u8; 22] = [
 const OF_TWO_CHANNELS: [u8; 13] =
     [0xff, 0xf8, 0x69, 0x12, 0x01, 0x0f, 0x00, 0x00, 0x09, 0x00, 0x09, 0xa8, 0xdf];
 
-const INFO: StreamInfo = StreamInfo {
+/// Of such frames.
+pub const INFO: StreamInfo = StreamInfo {
     min_block_size: 16,
     max_block_size: 16,
     min_frame_size: None,
@@ -135,5 +136,30 @@ fn long_damage(rt: HostRuntime) -> claxon::Result<()> {
         Wanted::Frame(2_000_111, 2_000_122, 2),
     ];
     assert!(rt; has_parts(rt.alloc(), bytes.as_slice(), &wanted)?);
+    Ok(())
+}
+
+// Positions are modulo 2^64.
+#[test]
+fn large_positions(rt: HostRuntime) -> claxon::Result<()> {
+    for start in [
+        0xffff_fff0u64,
+        0x1_0000_0000,
+        0xffff_ffff_ffff_fff0,
+        u64::MAX,
+    ] {
+        let mut parts = Parts::new(rt.alloc(), Cursor::new(&FRAMES[..21]), INFO, start)?;
+        let first = parts.next_part()?;
+        let second = start.wrapping_add(11);
+        assert!(rt;
+            matches!(&first, Some(part) if is_wanted(part, Wanted::Frame(start, second, 1)))
+        );
+        let damage = parts.next_part()?;
+        let end = start.wrapping_add(21);
+        assert!(rt;
+            matches!(&damage, Some(part) if is_wanted(part, Wanted::Cut(second, end, false)))
+        );
+        assert!(rt; parts.next_part()?.is_none());
+    }
     Ok(())
 }
