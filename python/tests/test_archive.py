@@ -12,6 +12,7 @@ from subprocess import DEVNULL
 from typing import List
 from unittest import mock
 
+from claxon.archive import finding
 from claxon.archive.batch import identity_of
 from claxon.archive.progress import Progress
 from claxon.archive.results import Results
@@ -124,9 +125,10 @@ class WhileFinding(Archive):
         progress = Progress()
         results = Results(str(self.results), is_new=True)
         wanted = Wanted([os.fsencode(self.files)], 2, None, None, False)
-        with mock.patch.dict(os.environ, {"CLAXON_PROGRAM": self.program}):
-            with mock.patch.object(progress, "found", side_effect=[None, KeyboardInterrupt]):
-                self.assertRaises(KeyboardInterrupt, run, wanted, results, progress)
+        with mock.patch.dict(os.environ, {"CLAXON_PROGRAM": self.program}), mock.patch.object(
+            progress, "found", side_effect=[None, KeyboardInterrupt]
+        ), mock.patch.object(finding, "_FILES", 300):
+            self.assertRaises(KeyboardInterrupt, run, wanted, results, progress)
         results.close()
         kept = {row["path"] for row in self.kept("path")}
         self.assertEqual(kept, set(self.count_verified()))

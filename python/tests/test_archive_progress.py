@@ -52,7 +52,7 @@ class Shown(Archive):
         hidden.mkdir()
         (hidden / "tqdm.py").write_text("raise ImportError\n")
         shown = self.at_terminal(sys.executable, f"{hidden}:{PYTHON}")
-        self.assertRegex(shown, r"^\r300 files found\x1b\[K")
+        self.assertRegex(shown, r"^\r[1-9][\d,]* files found\x1b\[K")
         self.assertRegex(
             shown,
             r"\r500 of 1,200 files, 0:\d\d:\d\d left, \d+ wrong, \d+ not supported,"
