@@ -48,7 +48,8 @@ use Rattle.claxon_stream_seek.specs.declared.clock.Counted.TheVariants.{
 
 -- ---- what is known of a stream
 
--- What the clock takes numbers to count is what they count in the stream, and blocks have this size.
+-- What the clock takes numbers to count is what they count in the stream, and blocks have this
+-- size.
 abbrev pub CountsRight : (known : Option StreamInfo) (frames : List Placed)
     → IsSteady frames known → Counted → ℕ → Type 0
 CountsRight known frames steady NotKnown size = Unit {0}

@@ -21,7 +21,8 @@ use Rattle.claxon_stream_seek.specs.declared.seeker.kept.KeptSeeker.{KeptSeeker}
 -- what coded numbers count, by its number
 abbrev pub kept_counted : ℕ → Counted
 kept_counted n =
-    if n == 0 then NotKnown else if n == 1 then Samples else if n == 2 then Blocks else VaryingBlocks
+    if n == 0 then NotKnown else if n == 1 then Samples else if n == 2 then Blocks
+    else VaryingBlocks
 
 -- the clock that is kept
 abbrev pub kept_clock : KeptClock → Clock

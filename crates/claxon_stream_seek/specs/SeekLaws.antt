@@ -5,7 +5,11 @@ use Rattle.claxon.specs.StreamInfos.{StreamInfo}
 use Rattle.claxon_stream.specs.FindLaws.{IsKnown}
 use Rattle.claxon_stream_seek.specs.Sought.{NoneIsThere, SeekEventIs}
 use Rattle.claxon_stream_seek.specs.declared.event.SeekEvent.{SeekEvent}
-use Rattle.claxon_stream_seek.specs.declared.event.SeekEvent.TheVariants.{Found, NotFound, OverBudget}
+use Rattle.claxon_stream_seek.specs.declared.event.SeekEvent.TheVariants.{
+  Found,
+  NotFound,
+  OverBudget,
+}
 use Rattle.claxon_stream_seek.specs.declared.sought.Sought.{Sought}
 
 -- `NotFound` says that no frame from the first one on has the sample.

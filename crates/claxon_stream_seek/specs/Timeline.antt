@@ -59,8 +59,8 @@ module _ (frames : List Placed) where
   abbrev pub IsFixed : Type 0
   IsFixed = IsNumbered false (λ i. i) frames
 
-  -- Frames stand one after another, whatever is between them, are numbered in one of these ways, and
-  -- have as many samples as 64 bits say.
+  -- Frames stand one after another, whatever is between them, are numbered in one of these ways,
+  -- and have as many samples as 64 bits say.
   pub record IsTimeline : Type 0 where
     pub numbers : IsVariable ⊎ (IsOfOldEncoder ⊎ IsFixed)
     pub samples : (i : ℕ) (x : Placed) → IsFrame frames i x → 1 ≤ x.info.duration

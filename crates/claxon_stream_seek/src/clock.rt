@@ -22,9 +22,10 @@ enum Counted {
 
 /// At which sample blocks begin, by the frames that were noted.
 ///
-/// `Block.time` is the coded number of a frame, times the size of its own block where the header says that sizes are fixed and the
-/// streaminfo says that they aren't. So it is wrong of a shorter last block, of each frame where numbers count samples although that
-/// bit says otherwise, and of a stream that changes its block size. A clock knows better by two frames, one after another.
+/// `Block.time` is the coded number of a frame, times the size of its own block where the header says that sizes are fixed and
+/// the streaminfo says that they aren't. So it is wrong of a shorter last block, of each frame where numbers count samples
+/// although that bit says otherwise, and of a stream that changes its block size. A clock knows better by two frames, one after
+/// another.
 ///
 /// C keeps it as a `KeptClock`.
 #[derive(Clone, Copy, Debug)]
@@ -81,7 +82,8 @@ impl Clock {
         }
     }
 
-    /// Whether it isn't known what the coded numbers count. The first two frames of a stream show it, unless its block size is variable.
+    /// Whether it isn't known what the coded numbers count. The first two frames of a stream show it, unless its block size is
+    /// variable.
     pub fn needs_frames(&self) -> bool
         ensures { IsTrue result ↔ NeedsFrames self.now }
     {
@@ -93,10 +95,12 @@ impl Clock {
         }
     }
 
-    /// The sample of each channel at which the block begins of a frame at this position of the stream; None where that isn't known.
+    /// The sample of each channel at which the block begins of a frame at this position of the stream; None where that isn't
+    /// known.
     ///
-    /// It is known of each frame after those that were noted, one after another from the first; where the block size is variable; and
-    /// after a seek too, once two frames that follow one another were noted, unless these show that the block size changes.
+    /// It is known of each frame after those that were noted, one after another from the first; where the block size is
+    /// variable; and after a seek too, once two frames that follow one another were noted, unless these show that the block size
+    /// changes.
     pub fn time(&self, at: u64, frame: &BlockInfo) -> Option<u64>
         ensures is_exact { TimeIsExact self.now at frame.now result }
         ensures is_known { TimeIsKnown self.now at frame.now result }
