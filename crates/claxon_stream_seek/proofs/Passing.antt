@@ -30,8 +30,8 @@ use Rattle.claxon_stream.specs.declared.frames.FrameDecoder.{FrameDecoder}
 use Rattle.claxon_stream.proofs.HeldBytes.{held_after, held_before, held_stands}
 use Rattle.claxon_stream.proofs.Searching.{cost_is, header_there}
 use Rattle.claxon_stream.proofs.TriedFrames.{IsVain, frame_there, same_info}
-use Rattle.claxon_stream_seek.specs.Search.{HasPassed, IsAnswered, IsAtByte, IsTriedAt, IsVainAt, NeedsMore, SkipsByte, found_at, search_cost}
-use Rattle.claxon_stream_seek.specs.Sought.{HasSample, Passes, PassesByte, SoughtHeader}
+use Rattle.claxon_stream_seek.specs.Search.{FoundIsHeld, HasPassed, IsAnswered, IsAtByte, IsPlaced, IsTriedAt, IsVainAt, NeedsMore, SkipsByte, found_at, search_cost}
+use Rattle.claxon_stream_seek.specs.Sought.{HasSample, Passes, PassesByte, SoughtHeader, start_of}
 use Rattle.claxon_stream_seek.specs.declared.event.SeekEvent.{SeekEvent}
 use Rattle.claxon_stream_seek.specs.declared.search.ByteSearch.{ByteSearch}
 use Rattle.claxon_stream_seek.specs.declared.sought.Sought.{Sought}
@@ -77,7 +77,7 @@ cost_next s w over e f n = cost_is (made_good (wasted_work s.budget) (s.position
 
 -- ---- what a decoder answers
 
-error_is : (e : Error) → IsOutOfMemory {A = Event} (Err e) → IsOutOfMemory {A = SeekEvent} (Err e)
+pub error_is : (e : Error) → IsOutOfMemory {A = Event} (Err e) → IsOutOfMemory {A = SeekEvent} (Err e)
 error_is e is = let same : e ≡ OutOfMemory = cc in ap (λ (x : Error). let r : Result SeekEvent Error = Err x in r) same
 
 read_in_vain : (known : Option StreamInfo) (all : List ℕ) (capacity position new : ℕ) (info : BlockInfo) → WantedHeader known None all info → (read : Event) → IsVain read → EventIs (known_format known) all true capacity position (Ok read) new
@@ -142,12 +142,12 @@ header_of known all frame taken k format =
 -- ---- the frame at a position
 
 module _ (at : ℕ) (bytes : List ℕ) (is_end : Bool) (known : Option StreamInfo) (old : ByteSearch) where
-  pub passes_byte : (new : ByteSearch) → new.position ≡ old.position + 1 → ((stream : List ℕ) → StandsIn stream at bytes is_end → HasPassed known stream old → HasPassed known stream new) → IsAtByte at bytes is_end known old (Ok None) new
-  passes_byte new moved all = record { moves = moved; needs = tt; of_stream = λ stream stands h. (all stream stands h, tt) }
+  pub passes_byte : (new : ByteSearch) → new.sought ≡ old.sought → new.position ≡ old.position + 1 → ((stream : List ℕ) → StandsIn stream at bytes is_end → HasPassed known stream old → HasPassed known stream new) → IsAtByte at bytes is_end known old (Ok None) new
+  passes_byte new same moved all = record { moves = moved; needs = tt; finds_held = λ placed. (omega (arith, placed, moved, ap (λ (s : Sought). s.first_frame) same), tt); of_stream = λ stream stands h. (all stream stands h, tt) }
 
   module _ (held : 0 < length (held_from at old.position bytes)) where
     pub no_header : (new : ByteSearch) → SkipsByte old new → ((stream : List ℕ) → StandsIn stream at bytes is_end → (info : BlockInfo) → SoughtHeader known old.sought stream old.position info → ⊥) → IsAtByte at bytes is_end known old (Ok None) new
-    no_header new is none = passes_byte new (ap (λ (s : ByteSearch). s.position) is)
+    no_header new is none = passes_byte new (ap (λ (s : ByteSearch). s.sought) is) (ap (λ (s : ByteSearch). s.position) is)
         (λ stream stands h. skipped known stream old new is (held_inside at bytes is_end stream stands old.position held) (none stream stands) h)
 
     module _ (info : BlockInfo) (samples : ℕ) (are : samples ≡ samples_of info) (wanted : WantedHeader known None (held_from at old.position bytes) info) (has : HasSample old.sought old.position info) where
@@ -158,7 +158,7 @@ module _ (at : ℕ) (bytes : List ℕ) (is_end : Bool) (known : Option StreamInf
       pub over : (result : Bool) (new : ByteSearch) → IsTriedAt samples old result new → result ≡ false → IsAtByte at bytes is_end known old (Ok None) new
       over result new t is =
           let p = t.passed_over is in
-          passes_byte new p.1 (λ stream stands h.
+          passes_byte new t.sought p.1 (λ stream stands h.
           let counted : counted_position new.budget ≡ old.position = omega (arith, t.counted, h.counted) in
           let spent : FitsBudget (search_cost old) info → ⊥ = λ fits. omega (arith, p.0, ap work_left t.wasted, are, fits) in
           let cost : search_cost new ≡ after_bytes 1 (after_passing_over (search_cost old)) = cost_next new ((search_cost old).wasted) true t.wasted p.2 (omega (arith, p.1, counted)) in
@@ -208,7 +208,7 @@ module _ (at : ℕ) (bytes : List ℕ) (is_end : Bool) (known : Option StreamInf
         vain : (read : Event) → IsVain read → EventIsOfStream known capacity at bytes is_end mid.decoder (Ok read) d → (new : ByteSearch) → IsVainAt samples tried None new → IsAtByte at bytes is_end known old (Ok None) new
         vain read is of_stream new v =
             let moved : new.position ≡ old.position + 1 = omega (arith, v.position, place) in
-            passes_byte new moved (λ stream stands h.
+            passes_byte new (v.sought ∙ t.sought) moved (λ stream stands h.
             let e = subst (λ (p : ℕ). EventIs (known_format known) (drop p stream) true capacity p (Ok read) (decoder_position d)) decoder_place (of_stream stream stands (is_answer read is)) in
             let k = read_in_vain known (drop old.position stream) capacity old.position (decoder_position d) info (sought stream stands).0 read is e in
             let n : ℕ = k.0 in
@@ -227,10 +227,37 @@ module _ (at : ℕ) (bytes : List ℕ) (is_end : Bool) (known : Option StreamInf
             subst (λ (r : Result (Option SeekEvent) Error). IsAtByte at bytes is_end known old r new) (sym e)
             (subst (λ (n : ByteSearch). IsAtByte at bytes is_end known old other n) (sym f) h)
 
-        found : (frame : DecodedFrame Global) → EventIsOfStream known capacity at bytes is_end mid.decoder (Ok (Decoded frame)) d → IsAtByte at bytes is_end known old (Ok (Some (found_at tried frame))) tried
-        found frame of_stream = record {
+        first_stays : mid.sought.first_frame ≡ old.sought.first_frame
+        first_stays = ap (λ (s : Sought). s.first_frame) t.sought
+
+        placed_there : IsPlaced old → IsPlaced tried
+        placed_there placed = omega (arith, placed, place, first_stays)
+
+        -- the frame stands in the bytes that are held
+        found_held : (frame : DecodedFrame Global) → EventIsSound known capacity at bytes is_end mid.decoder (Ok (Decoded frame)) d → IsPlaced old → FoundIsHeld at bytes known old.sought (Ok (found_at tried frame))
+        found_held frame sound placed =
+            let e = subst (λ (p : ℕ). EventIs (known_format known) (held_from at p bytes) (ends_there at p is_end) capacity p (Ok (Decoded frame)) (decoder_position d)) decoder_place sound in
+            let here = held_from at old.position bytes in
+            let one = same_info known here info wanted frame e.0 e.1 in
+            let there = frame_there known here info wanted frame e.0 e.1 in (
+              omega (arith, placed, place),
+              record {
+                there = subst (λ (p : ℕ). WantedFrame known None (held_from at p bytes) frame.info) (sym place) there;
+                has = subst (λ (p : ℕ). HasSample old.sought p frame.info) (sym place) (subst (λ (i : BlockInfo). HasSample old.sought old.position i) (sym one) has);
+                code = (
+                  e.0,
+                  subst (λ (p : ℕ). BeginsWithLength (FrameWithHeader (known_format known) (decoded_view frame)) (held_from at p bytes) e.0) (sym place) e.1,
+                  e.2 ∙ ap (λ (p : ℕ). p + e.0) (sym place),
+                );
+                time = ap (λ (s : Sought). start_of s mid.position frame.info) t.sought;
+              },
+            )
+
+        found : (frame : DecodedFrame Global) → EventIsSound known capacity at bytes is_end mid.decoder (Ok (Decoded frame)) d → EventIsOfStream known capacity at bytes is_end mid.decoder (Ok (Decoded frame)) d → IsAtByte at bytes is_end known old (Ok (Some (found_at tried frame))) tried
+        found frame sound of_stream = record {
           moves = place;
           needs = tt;
+          finds_held = λ placed. (placed_there placed, found_held frame sound placed);
           of_stream = λ stream stands h. (
             stays stream h,
             let e = subst (λ (p : ℕ). EventIs (known_format known) (drop p stream) true capacity p (Ok (Decoded frame)) (decoder_position d)) decoder_place (of_stream stream stands tt) in
@@ -255,10 +282,11 @@ module _ (at : ℕ) (bytes : List ℕ) (is_end : Bool) (known : Option StreamInf
         }
 
         pub answered : (r : Result Event Error) (result : Result (Option SeekEvent) Error) (new : ByteSearch) → EventIsSound known capacity at bytes is_end mid.decoder r d → EventIsOfStream known capacity at bytes is_end mid.decoder r d → IsAnswered samples r tried result new → IsAtByte at bytes is_end known old result new
-        answered (Ok (Decoded frame)) result new sound of_stream a = as_answered result _ new tried a.0 a.1 (found frame of_stream)
+        answered (Ok (Decoded frame)) result new sound of_stream a = as_answered result _ new tried a.0 a.1 (found frame sound of_stream)
         answered (Ok (Event_ReadOn needed)) result new sound of_stream a = as_answered result _ new tried a.0 a.1 (record {
           moves = place;
           needs = needed_more at bytes is_end known capacity mid.decoder d needed sound;
+          finds_held = λ placed. (placed_there placed, tt);
           of_stream = λ stream stands h. (stays stream h, tt);
         })
         answered (Ok (Faulty fault)) result new sound of_stream a = as_answered result (Ok None) new new a.0 refl (vain (Faulty fault) tt of_stream new a.1)
@@ -267,6 +295,7 @@ module _ (at : ℕ) (bytes : List ℕ) (is_end : Bool) (known : Option StreamInf
         answered (Err e) result new sound of_stream a = as_answered result (Err e) new tried a.0 a.1 (record {
           moves = place;
           needs = tt;
+          finds_held = λ placed. (placed_there placed, (error_is e sound.0, (decoder_position mid.decoder, capacity, sound.1)));
           of_stream = λ stream stands h. (
             stays stream h,
             let k = refused at bytes is_end known capacity mid.decoder d stream stands e sound in

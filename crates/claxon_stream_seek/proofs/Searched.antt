@@ -6,11 +6,12 @@ use Rattle.claxon.specs.StreamInfos.{StreamInfo}
 use Rattle.claxon_stream.specs.Held.{StandsIn, ends_there, held_from}
 use Rattle.claxon_stream.proofs.HeldBytes.{held_stands}
 use Rattle.claxon_stream.proofs.SearchAnswers.{none_at_end}
-use Rattle.claxon_stream_seek.specs.Search.{HasPassed, SearchNeedsMore, end_answer, read_on, search_cost}
+use Rattle.claxon_stream_seek.specs.Search.{FoundIsHeld, HasPassed, SearchFindsHeld, SearchNeedsMore, end_answer, read_on, search_cost}
 use Rattle.claxon_stream_seek.specs.Sought.{Passes, PassesAll, SeekEventIs}
 use Rattle.claxon_stream_seek.specs.declared.event.SeekEvent.{SeekEvent}
 use Rattle.claxon_stream_seek.specs.declared.event.SeekEvent.TheVariants.{NotFound, OverBudget}
 use Rattle.claxon_stream_seek.specs.declared.search.ByteSearch.{ByteSearch}
+use Rattle.claxon_stream_seek.specs.declared.sought.Sought.{Sought}
 
 -- what is passed from one position on, up to another
 pub record IsSearched (at : ℕ) (bytes : List ℕ) (is_end : Bool) (known : Option StreamInfo) (old now : ByteSearch) (from end : ℕ) : Type 0 where
@@ -56,3 +57,14 @@ module _ (at : ℕ) (bytes : List ℕ) (is_end : Bool) (known : Option StreamInf
 
   pub end_needs : (answer : SeekEvent) → answer ≡ end_answer at is_end now → SearchNeedsMore at bytes is_end (Ok answer)
   end_needs answer is = subst (λ (a : SeekEvent). SearchNeedsMore at bytes is_end (Ok a)) (sym is) (needs_by (ends_there at now.position is_end) now.has_passed_over refl)
+
+  held_by : (ends over : Bool) → FoundIsHeld at bytes known old.sought (Ok (if ends then (if over then OverBudget else NotFound) else read_on now.position 0))
+  held_by true true = tt
+  held_by true false = tt
+  held_by false over = tt
+
+  pub end_finds_held : (answer : SeekEvent) → answer ≡ end_answer at is_end now → SearchFindsHeld at bytes known old (Ok answer) now
+  end_finds_held answer is = λ placed. (
+    omega (arith, placed, s.start, s.begins, ap (λ (q : Sought). q.first_frame) s.same),
+    subst (λ (a : SeekEvent). FoundIsHeld at bytes known old.sought (Ok a)) (sym is) (held_by (ends_there at now.position is_end) now.has_passed_over),
+  )

@@ -25,8 +25,11 @@ use Rattle.std.specs.Global.{Global}
 use Rattle.claxon.specs.BlockInfos.{BlockInfo}
 use Rattle.claxon.specs.DecodedFrames.{DecodedFrame}
 use Rattle.claxon.specs.Errors.{Error}
+use Rattle.claxon.specs.FrameReader.{HeaderOfLargerBlock}
+use Rattle.claxon.specs.Prefix.{BeginsWith}
+use Rattle.claxon.specs.Promises.{IsOutOfMemory}
 use Rattle.claxon.specs.StreamInfos.{StreamInfo}
-use Rattle.claxon_seek.specs.Find.{WantedHeader}
+use Rattle.claxon_seek.specs.Find.{WantedHeader, known_format}
 use Rattle.claxon_stream.specs.Budget.{charged, counted_position, made_good, wasted_work, work_left}
 use Rattle.claxon_stream.specs.Event.{needed_after}
 use Rattle.claxon_stream.specs.FrameDecoder.{decoder_position}
@@ -41,7 +44,14 @@ use Rattle.claxon_stream.specs.declared.event.Event.TheVariants.{
   ReadOn as Event_ReadOn,
 }
 use Rattle.claxon_stream.specs.declared.event.NeededBytes.{NeededBytes}
-use Rattle.claxon_stream_seek.specs.Sought.{HasSample, Passes, SeekEventIs, SoughtHeader, start_of}
+use Rattle.claxon_stream_seek.specs.Sought.{
+  HasSample,
+  IsSoughtIn,
+  Passes,
+  SeekEventIs,
+  SoughtHeader,
+  start_of,
+}
 use Rattle.claxon_stream_seek.specs.declared.event.SeekEvent.{SeekEvent}
 use Rattle.claxon_stream_seek.specs.declared.event.SeekEvent.TheVariants.{
   Found,
@@ -78,6 +88,10 @@ pub record HasPassed (known : Option StreamInfo) (stream : List ℕ) (s : ByteSe
   pub passes :
       Passes known s.sought stream (s.position - s.sought.first_frame) (search_cost s)
 
+-- Its position isn't before the first frame.
+abbrev pub IsPlaced : ByteSearch → Type 0
+IsPlaced s = s.sought.first_frame ≤ s.position
+
 -- What is sought stays.
 abbrev pub KeepsSought : ByteSearch → ByteSearch → Type 0
 KeepsSought old new = new.sought ≡ old.sought
@@ -90,6 +104,27 @@ pub record SearchBegins (sought : Sought) (s : ByteSearch) : Type 0 where
   pub nothing : search_cost s ≡ record { wasted = 0; passes_over = false }
 
 -- of the bytes that are held
+module _ (at : ℕ) (bytes : List ℕ) (known : Option StreamInfo) where
+  -- A frame that is found stands in them, not before the first one, and has the sample.
+  -- `OutOfMemory` is returned only after a header that stands in them.
+  abbrev pub FoundIsHeld : Sought → Result SeekEvent Error → Type 0
+  FoundIsHeld s (Ok (Found found)) =
+      (s.first_frame ≤ found.position)
+      × IsSoughtIn known s (held_from at found.position bytes) found
+  FoundIsHeld s (Ok NotFound) = Unit {0}
+  FoundIsHeld s (Ok OverBudget) = Unit {0}
+  FoundIsHeld s (Ok (ReadOn needed)) = Unit {0}
+  FoundIsHeld s (Err e) =
+      IsOutOfMemory {A = SeekEvent} (Err e)
+      × ((position : ℕ) × (capacity : ℕ)
+      × BeginsWith (HeaderOfLargerBlock (known_format known) capacity)
+      (held_from at position bytes))
+
+  -- So it is of a search that is not before the first frame, and neither is it after the call.
+  abbrev pub SearchFindsHeld : ByteSearch → Result SeekEvent Error → ByteSearch → Type 0
+  SearchFindsHeld old result new =
+      IsPlaced old → IsPlaced new × FoundIsHeld old.sought result
+
 module _ (at : ℕ) (bytes : List ℕ) (is_end : Bool) where
   -- More bytes are asked for than are held from the position on, and the stream may go on.
   abbrev pub NeedsMore : NeededBytes → Type 0
@@ -111,8 +146,8 @@ module _ (at : ℕ) (bytes : List ℕ) (is_end : Bool) where
 
   -- ---- parts of the code
 
-  -- A header with the sample begins at the position; or none does, of each stream in which the bytes
-  -- stand; or they end within what may be one.
+  -- A header with the sample begins at the position; or none does, of each stream in which the
+  -- bytes stand; or they end within what may be one.
   abbrev pub SoughtIsThere : Option StreamInfo → ByteSearch → SoughtThere → Type 0
   SoughtIsThere known s (Header info) =
       WantedHeader known None (held_from at s.position bytes) info
@@ -144,6 +179,7 @@ module _ (at : ℕ) (bytes : List ℕ) (is_end : Bool) where
       (result : Result (Option SeekEvent) Error) (new : ByteSearch) : Type 0 where
     pub moves : MovesByte old result new
     pub needs : ByteNeedsMore result
+    pub finds_held : SearchFindsHeld at bytes known old (answer_at result) new
     pub of_stream : (stream : List ℕ) → StandsIn stream at bytes is_end
         → HasPassed known stream old
         → HasPassed known stream new × SeekEventIs known new.sought stream (answer_at result)

@@ -16,7 +16,14 @@ use Rattle.claxon_stream.specs.declared.event.Event.TheVariants.{
   Faulty,
   ReadOn as Event_ReadOn,
 }
-use Rattle.claxon_stream_seek.specs.Search.{ByteNeedsMore, HasPassed, NeedsMore, answer_at}
+use Rattle.claxon_stream_seek.specs.Search.{
+  ByteNeedsMore,
+  FoundIsHeld,
+  HasPassed,
+  IsPlaced,
+  NeedsMore,
+  answer_at,
+}
 use Rattle.claxon_stream_seek.specs.Sought.{HasSample, SeekEventIs, start_of}
 use Rattle.claxon_stream_seek.specs.declared.clock.Clock.{Clock}
 use Rattle.claxon_stream_seek.specs.declared.event.SeekEvent.{SeekEvent}
@@ -51,6 +58,18 @@ module _ (known : Option StreamInfo) (at : ℕ) (bytes : List ℕ) (is_end : Boo
   SeekIsOfStream = (stream : List ℕ) → StandsIn stream at bytes is_end
       → SeekIsRightOf known stream old
       → SeekIsRightOf known stream new × SeekEventIs known (sought_by new) stream result
+
+-- Where the search of all bytes is isn't before the first frame.
+abbrev pub SeekIsPlaced : Seeker → Type 0
+SeekIsPlaced s = IsPlaced s.search
+
+-- A frame that is found stands in the bytes that are held, not before the first frame, and has the
+-- sample. `OutOfMemory` is returned only after a header that stands there.
+abbrev pub SeekFindsHeld : Option StreamInfo → ℕ → List ℕ → Seeker → Result SeekEvent Error
+    → Seeker → Type 0
+SeekFindsHeld known at bytes old result new =
+    SeekIsPlaced old
+    → SeekIsPlaced new × FoundIsHeld at bytes known (sought_by old) result
 
 -- What is sought stays.
 abbrev pub SeekKeepsSought : Seeker → Seeker → Type 0
@@ -93,6 +112,11 @@ module _ (at : ℕ) (bytes : List ℕ) (is_end : Bool) where
       → Type 0
   LikelyIsOfStream known old result = (stream : List ℕ) → StandsIn stream at bytes is_end
       → SeekEventIs known (sought_by old) stream (answer_at at bytes is_end result)
+
+  -- A frame that is found there is held.
+  abbrev pub LikelyIsHeld : Option StreamInfo → Seeker → Result (Option SeekEvent) Error → Type 0
+  LikelyIsHeld known old result =
+      FoundIsHeld at bytes known (sought_by old) (answer_at at bytes is_end result)
 
   abbrev pub LikelyNeedsMore : Result (Option SeekEvent) Error → Type 0
   LikelyNeedsMore result = ByteNeedsMore at bytes is_end result

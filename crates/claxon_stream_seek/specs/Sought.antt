@@ -62,6 +62,18 @@ abbrev pub HasSample : Sought → ℕ → BlockInfo → Type 0
 HasSample s at info =
     (start_of s at info ≤ s.sample) × (s.sample < start_of s at info + info.duration)
 
+-- The bytes begin with a frame that has the sample, at the position that is answered, and of so
+-- many bytes.
+pub record IsSoughtIn (known : Option StreamInfo) (s : Sought) (bytes : List ℕ)
+    (found : SoughtFrame) : Type 0 where
+  pub there : WantedFrame known None bytes found.frame.info
+  pub has : HasSample s found.position found.frame.info
+  pub code : (taken : ℕ)
+      × BeginsWithLength (FrameWithHeader (known_format known) (decoded_view found.frame)) bytes
+      taken
+      × (found.end ≡ found.position + taken)
+  pub time : found.time ≡ start_of s found.position found.frame.info
+
 -- of a stream with all these bytes, whose frames have the number of channels and the bit depth of
 -- the streaminfo, if that is known
 module _ (known : Option StreamInfo) (s : Sought) (stream : List ℕ) where
@@ -80,9 +92,9 @@ module _ (known : Option StreamInfo) (s : Sought) (stream : List ℕ) where
 
   -- ---- what a search passes, and what it costs
 
-  -- The byte at the position is passed. No such header begins with it. Or the frame of one is passed
-  -- over, as its block has more samples than are left of the budget; or tried in vain, and these
-  -- samples are charged, and the bytes that are read.
+  -- The byte at the position is passed. No such header begins with it. Or the frame of one is
+  -- passed over, as its block has more samples than are left of the budget; or tried in vain, and
+  -- these samples are charged, and the bytes that are read.
   abbrev pub PassesByte : ℕ → Cost → Cost → Type 0
   PassesByte at old new =
       (((info : BlockInfo) → SoughtHeader at info → ⊥) × (new ≡ after_bytes 1 old))

@@ -1,5 +1,5 @@
 //! The search for a frame with a sample, byte by byte.
-ghost use Rattle.std.specs.Prelude.{◌≡◌, ◌+◌, ◌*◌, ◌<◌, ◌≤◌, IfSome, length};
+ghost use Rattle.std.specs.Prelude.{◌≡◌, ◌+◌, ◌*◌, ◌<◌, IfSome, length};
 ghost use Rattle.claxon.specs.ShownHead.{HasBitDepth};
 ghost use Rattle.claxon_stream.specs.Held.{held_from};
 ghost use Rattle.claxon_stream.specs.Search.{samples_of};
@@ -47,6 +47,7 @@ impl ByteSearch {
       IsVainAt,
       KeepsSought,
       SearchBegins,
+      SearchFindsHeld,
       SearchIsOfStream,
       SearchNeedsMore,
       SkipsByte,
@@ -83,6 +84,7 @@ impl ByteSearch {
         ensures is_of_stream { SearchIsOfStream at bytes.now is_end known
             self.old result self.new }
         ensures needs_more { SearchNeedsMore at bytes.now is_end result }
+        ensures finds_held { SearchFindsHeld at bytes.now known self.old result self.new }
     {
         let from = self.position;
         let end = from + held_from(bytes, at, from).len() as u64;

@@ -21,14 +21,15 @@ use std::alloc::Global;
 // How many bytes are asked for at once on the way to a sample: a header stands in them mostly.
 const STEP_BYTES: usize = 8 * 1024;
 
-// How many bytes are asked for where a frame is likely, if the streaminfo doesn't say how many a frame has at most: one try suffices
-// mostly.
+// How many bytes are asked for where a frame is likely, if the streaminfo doesn't say how many a frame has at most: mostly one
+// try suffices.
 const FRAME_BYTES: usize = 16 * 1024;
 
 // The same at most, whatever the streaminfo says.
 const MAX_FRAME_BYTES: usize = 1 << 20;
 
-// How many bytes are read for headers between known times, before all bytes are searched: as many as four frames of the largest have.
+// How many bytes are read for headers between known times, before all bytes are searched: as many as four of the largest
+// frames have.
 const MAX_BYTES_BY_TIMES: u64 = 1 << 24;
 
 // What is done next.
@@ -63,8 +64,8 @@ enum NextHeader {
 /// }
 /// ```
 ///
-/// Headers between known times lead to the frame. They, their times and the length are never believed: the frame is decoded before it is
-/// answered, and where they mislead all bytes are searched, within the budget of a `FrameFinder`.
+/// Headers between known times lead to the frame. They, their times and the length are never believed: the frame is decoded
+/// before it is answered, and where they mislead all bytes are searched, within the budget of a `FrameFinder`.
 ///
 /// C keeps it as a `KeptSeeker`.
 #[derive(Clone, Copy, Debug)]
@@ -90,10 +91,12 @@ impl Seeker {
       IsLikelySought,
       KeepsSearch,
       LikelyIsAnswered,
+      LikelyIsHeld,
       LikelyIsOfStream,
       LikelyNeedsMore,
       NextNeeds,
       NextNeedsMore,
+      SeekFindsHeld,
       SeekIsOfStream,
       SeekKeepsSought,
       SeekStartsRight,
@@ -102,8 +105,8 @@ impl Seeker {
       sought_with,
     };
 
-    /// A seek to this sample of each channel, in a stream whose first frame is at this position, and which has so many bytes if that is
-    /// known. The sample at which a block begins is that of the clock, or `Block.time` where the clock doesn't know.
+    /// A seek to this sample of each channel, in a stream whose first frame is at this position, and which has so many bytes if
+    /// that is known. The sample at which a block begins is that of the clock, or `Block.time` where the clock doesn't know.
     pub fn new(
         first_frame: u64,
         length: Option<u64>,
@@ -132,11 +135,11 @@ impl Seeker {
         }
     }
 
-    /// What comes next, by the bytes that are held: from the position `at` of the stream on, and up to its end if `is_end`. They have to
-    /// be those of one stream in all calls.
+    /// What comes next, by the bytes that are held: from the position `at` of the stream on, and up to its end if `is_end`.
+    /// They have to be those of one stream in all calls.
     ///
-    /// `ReadOn` asks for bytes from a position on, before or after those that are held; fewer may be handed in. After another answer the
-    /// seek is at its end.
+    /// `ReadOn` asks for bytes from a position on, before or after those that are held; fewer may be handed in. After another
+    /// answer the seek is at its end.
     ///
     /// # Errors
     ///
@@ -154,6 +157,7 @@ impl Seeker {
         ensures keeps_sought { SeekKeepsSought self.old self.new }
         ensures is_of_stream { SeekIsOfStream known at bytes.now is_end self.old result self.new }
         ensures needs_more { SearchNeedsMore at bytes.now is_end result }
+        ensures finds_held { SeekFindsHeld known at bytes.now self.old result self.new }
     {
         if let Some(needed) = self.go_by_headers(bytes, at, is_end, &known) {
             return Ok(SeekEvent::ReadOn(needed));
@@ -301,6 +305,7 @@ impl Seeker {
         ensures keeps_search { KeepsSearch self.old self.new }
         ensures is_of_stream { LikelyIsOfStream at bytes.now is_end known self.old result }
         ensures needs_more { LikelyNeedsMore at bytes.now is_end result }
+        ensures is_held { LikelyIsHeld at bytes.now is_end known self.old result }
     {
         let Stage::LikelyFrame = self.stage else {
             return Ok(None);
