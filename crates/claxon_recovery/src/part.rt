@@ -50,6 +50,6 @@ pub enum Cause {
     OtherFormat(BlockInfo),
     /// The stream ends within what may be a frame, or after one byte.
     Cut,
-    /// The first 512 KiB don't tell, and no more are kept.
+    /// The first bytes don't tell, and no more are kept: 512 KiB, or as many as a verbatim frame of the largest block may have.
     TooLong,
 }
