@@ -1,5 +1,5 @@
 -- How many bytes are kept.
-use Rattle.std.proofs.Common.{ℕ, ◌≤◌, min}
+use Rattle.std.proofs.Common.{◌≤◌, min}
 use Rattle.std.proofs.Math.Nat.{le-max_right}
 use Rattle.claxon.specs.StreamInfos.{StreamInfo}
 use Rattle.claxon_recovery.specs.Kept.{most_kept, verbatim_bytes}

@@ -3,12 +3,11 @@ use Rattle.std.proofs.Common.{◌≡◌, inl, inr, ℕ, zero, suc, ◌+◌, ◌%
 use Rattle.std.proofs.lemmas.Bool.{cases_lt}
 use Rattle.std.proofs.lemmas.List.{append_cancel_left, drop_at}
 use Rattle.claxon.specs.DecodedFrame.{FrameValue, decoded_view}
-use Rattle.claxon.specs.Frame.{StreamFormat}
 use Rattle.claxon.specs.ShownHead.{HasBitDepth}
 use Rattle.claxon.specs.StreamInfos.{StreamInfo}
 use Rattle.claxon.proofs.DecodedFrames.{decoded_unambiguous}
 use Rattle.claxon_seek.specs.Find.{known_format}
-use Rattle.claxon_recovery.specs.AtStart.{BeginsWithStreamFrame, StreamFrameCode}
+use Rattle.claxon_recovery.specs.AtStart.{BeginsWithStreamFrame}
 use Rattle.claxon_recovery.specs.Parts.{IsDamage, IsFramePart, IsPart, NoFrames, after_part}
 use Rattle.claxon_recovery.specs.Runs.{AreAnswered, AreFrameParts, AreFrames, AreJoined, AreParts, AreSearched, SameParts}
 use Rattle.claxon_recovery.specs.declared.part.Damage.{Damage}

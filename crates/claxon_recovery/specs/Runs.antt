@@ -1,22 +1,5 @@
 -- Whole runs: the parts of a stream, one after another, up to its end.
-use Rattle.std.specs.Prelude.{
-  ◌≡◌,
-  ◌↔◌,
-  ◌+◌,
-  ◌%◌,
-  ◌^◌,
-  ◌<◌,
-  ◌≤◌,
-  ℕ,
-  IsTrue,
-  List,
-  [],
-  ◌∷◌,
-  ◌++◌,
-  length,
-  Option,
-  Some,
-}
+use Rattle.std.specs.Prelude.{◌≡◌, ◌+◌, ◌%◌, ◌^◌, ◌<◌, ◌≤◌, ℕ, List, [], ◌∷◌, ◌++◌, length, Some}
 use Rattle.claxon.specs.DecodedFrame.{FrameValue, decoded_view}
 use Rattle.claxon.specs.ShownHead.{HasBitDepth}
 use Rattle.claxon.specs.StreamInfos.{StreamInfo}

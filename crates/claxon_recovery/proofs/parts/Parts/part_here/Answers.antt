@@ -1,4 +1,4 @@
-use Rattle.std.proofs.Common.{ℕ, List, ◌≡◌, ◌≤◌, ◌∙◌, ap, length, refl, sym, subst, inr, arith}
+use Rattle.std.proofs.Common.{ℕ, List, ◌≤◌, ◌∙◌, ap, length, refl, sym, subst, inr, arith}
 use Rattle.std.proofs.lemmas.Bool.Decides.{nat_tests}
 use Rattle.std.proofs.lemmas.Result.{err_from_is_err_and}
 use Rattle.claxon_recovery.specs.Kept.{most_kept}

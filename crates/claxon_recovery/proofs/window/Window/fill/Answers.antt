@@ -1,6 +1,6 @@
 use Rattle.std.proofs.Common.{◌∙◌, ap, arith, length}
 use Rattle.std.proofs.lemmas.Result.{err_from_is_err_and}
-use Rattle.claxon_recovery.proofs.Reading.{more_is_read, on_both, on_fail}
+use Rattle.claxon_recovery.proofs.Reading.{on_fail}
 use Rattle.claxon_recovery.proofs.window.Window.fill.Goals as goal
 
 pub read_more-requires : goal.read_more-requires
