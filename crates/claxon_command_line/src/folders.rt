@@ -4,7 +4,7 @@ ghost use Rattle.claxon_command_line.specs.Folders.{IsFlacName};
 
 use crate::names::read_name;
 use claxon_input::error::Result;
-use claxon_input::input::BufferedReader;
+use claxon_input::input::{BufferedReader, ReadBytes};
 use std::alloc::{AllocError, Global};
 use std::rt::Files;
 use std::{fs, result};
@@ -51,28 +51,41 @@ pub fn add_contents<Q: Files + AllocGlobal>(
     folder: &str,
     paths: &mut Vec<Vec<u8>>,
 ) -> Result<()> {
-    let alloc = rt.alloc();
-    let mut front = Vec::new(alloc);
-    front.extend_from_slice(folder.as_bytes())?;
-    if !folder.ends_with('/') {
-        front.push(b'/')?;
-    }
-    let mut names = BufferedReader::new(alloc, rt.open_dir(folder)?)?;
-    let mut contents = Vec::new(alloc);
-    let mut name = Vec::new(alloc);
-    for _ in 0..u64::MAX {
-        if !read_name(&mut names, &mut name)? {
-            break;
-        }
-        if !is_dots(name.as_slice()) {
-            contents.push(joined(alloc, front.as_slice(), name.as_slice())?)?;
-        }
-    }
+    let mut contents = contents_of(rt, folder)?;
     contents.sort_unstable_by(|a, b| b.as_slice().cmp(a.as_slice()));
     for path in contents {
         paths.push(path)?;
     }
     Ok(())
+}
+
+// The paths of what lies in a folder, in no order.
+fn contents_of<Q: Files + AllocGlobal>(rt: &Q, folder: &str) -> Result<Vec<Vec<u8>>> {
+    let alloc = rt.alloc();
+    let front = with_slash(alloc, folder)?;
+    let mut names = BufferedReader::new(alloc, rt.open_dir(folder)?)?;
+    paths_of(alloc, &mut names, front.as_slice())
+}
+
+// A folder's name, with a slash at its end.
+fn with_slash(alloc: Global, folder: &str) -> result::Result<Vec<u8>, AllocError> {
+    let back: &[u8] = if folder.ends_with('/') { b"" } else { b"/" };
+    joined(alloc, folder.as_bytes(), back)
+}
+
+// The paths of the names that are read, each after `front`, but for the names of a folder itself and of the one above it.
+fn paths_of<R: ReadBytes>(alloc: Global, names: &mut R, front: &[u8]) -> Result<Vec<Vec<u8>>> {
+    let mut paths = Vec::new(alloc);
+    let mut name = Vec::new(alloc);
+    for _ in 0..u64::MAX {
+        if !read_name(names, &mut name)? {
+            break;
+        }
+        if !is_dots(name.as_slice()) {
+            paths.push(joined(alloc, front, name.as_slice())?)?;
+        }
+    }
+    Ok(paths)
 }
 
 // Whether the name is that of the folder itself, or of the one above it.
