@@ -1,0 +1,5 @@
+use Rattle.std.proofs.Common.{rules}
+use Rattle.claxon_command_line.proofs.arguments.Arguments.rest.Goals as goal
+
+pub returns : goal.returns
+returns c = search rules
