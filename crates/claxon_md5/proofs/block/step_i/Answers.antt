@@ -1,0 +1,8 @@
+use Rattle.std.proofs.Common.{arith}
+use Rattle.std.proofs.lemmas.Grind.{common_steps}
+use Rattle.claxon_md5.specs.Md5.{step}
+use Rattle.claxon_md5.proofs.block.step_i.Goals as goal
+
+pub returns : goal.returns
+unfolding step
+returns c = grind (arith, common_steps)
