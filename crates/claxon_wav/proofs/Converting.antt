@@ -88,7 +88,7 @@ pub record PutSoFar {W : Type 0} (contents : W → Option (List ℕ)) (stream : 
   pub puts : PutsSamples contents blocks x y
 
 module _ {W : Type 0} {contents : W → Option (List ℕ)} where
-  puts_none : (x : WavWriter W) → PutsSamples contents [] x x
+  pub puts_none : (x : WavWriter W) → PutsSamples contents [] x x
   puts_none x = record {
     channels = All-nil (λ (b : Block). length b.channels ≡ x.layout.channels);
     fit = All-nil (FitsIn x.layout.valid_bits);
@@ -100,7 +100,7 @@ module _ {W : Type 0} {contents : W → Option (List ℕ)} where
     unflushed = refl;
   }
 
-  puts_more : {blocks : List Block} {x y z : WavWriter W} (block : BlockValue) → PutsSamples contents blocks x y → PutsBlock contents block y z → SamplesFit block y → SameHeader y z → Unflushed y z → PutsSamples contents (blocks ++ block_view block ∷ []) x z
+  pub puts_more : {blocks : List Block} {x y z : WavWriter W} (block : BlockValue) → PutsSamples contents blocks x y → PutsBlock contents block y z → SamplesFit block y → SameHeader y z → Unflushed y z → PutsSamples contents (blocks ++ block_view block ∷ []) x z
   puts_more {blocks = blocks} {x = x} {y = y} {z = z} block h put fits same unflushed =
       let valid_bits : y.layout.valid_bits ≡ x.layout.valid_bits = ap (λ (l : Layout). l.valid_bits) h.layout_is in
       let all = packed_more x.layout.valid_bits blocks block in
@@ -143,12 +143,12 @@ pub record HashedSoFar {W : Type 0} (contents : W → Option (List ℕ)) (stream
   pub put : PutSoFar contents stream a b x y
   pub hashes : HashesBlocks bit_depth put.blocks hasher hashed
 
-no_block_hashed : (n : ℕ) (hasher : Option Md5) → HashesBlocks n [] hasher hasher
+pub no_block_hashed : (n : ℕ) (hasher : Option Md5) → HashesBlocks n [] hasher hasher
 no_block_hashed n None = refl
 no_block_hashed n (Some hasher) = hashes_none n hasher
 
 -- the samples of one block more
-block_hashed : (n : ℕ) (blocks : List Block) (block : BlockValue) (x y z : Option Md5) → HashesBlocks n blocks x y → HashesToo n block y z → HashesBlocks n (blocks ++ block_view block ∷ []) x z
+pub block_hashed : (n : ℕ) (blocks : List Block) (block : BlockValue) (x y z : Option Md5) → HashesBlocks n blocks x y → HashesToo n block y z → HashesBlocks n (blocks ++ block_view block ∷ []) x z
 block_hashed n blocks block None None z before more = more
 block_hashed n blocks block None (Some y) z before more = absurd cc
 block_hashed n blocks block (Some x) None z before more = absurd before
@@ -193,7 +193,7 @@ all_before : {X : Type 0} (P : X → Type 0) (xs ys : List X) → All P (xs ++ y
 all_before P xs ys h = subst (All P) (take_at xs ys (length xs) refl) (All-take P (length xs) (xs ++ ys) h)
 
 -- the samples of blocks one after another
-samples_both : (xs ys : List Block) → samples_of (xs ++ ys) ≡ samples_of xs ++ samples_of ys
+pub samples_both : (xs ys : List Block) → samples_of (xs ++ ys) ≡ samples_of xs ++ samples_of ys
 samples_both xs ys = flat_map-append (λ (b : Block). interleave b.channels) xs ys
 
 -- ---- counts

@@ -9,6 +9,7 @@ use Rattle.std.specs.Prelude.{
   ◌<◌,
   ℕ,
   ◌+◌,
+  ◌*◌,
   ◌/◌,
   ◌%◌,
   ◌^◌,
@@ -16,6 +17,7 @@ use Rattle.std.specs.Prelude.{
   [],
   if◌then◌else◌,
   length,
+  replicate,
   None,
   Option,
   Some,
@@ -49,9 +51,9 @@ use Rattle.claxon_write.specs.CountingWriter.{
 use Rattle.claxon_write.specs.Written.{AppendsPrefix}
 use Rattle.claxon_write.specs.declared.counting_writer.CountingWriter.{CountingWriter}
 use Rattle.claxon_wav.specs.DataSize.{max_data_size}
-use Rattle.claxon_wav.specs.Samples.{HaveCapacity, packed_block}
+use Rattle.claxon_wav.specs.Samples.{HaveCapacity, packed_block, silence}
 use Rattle.claxon_wav.specs.WavError.{IsMemory, IsOutput}
-use Rattle.claxon_wav.specs.WaveFile.{IsHeader, block_align, pad, unknown_header}
+use Rattle.claxon_wav.specs.WaveFile.{IsHeader, block_align, pad, sample_size, unknown_header}
 use Rattle.claxon_wav.specs.declared.error.Error.{Error}
 use Rattle.claxon_wav.specs.declared.error.Error.TheVariants.{
   OtherChannels,
@@ -253,6 +255,52 @@ KeepsRoom old new = (n : ℕ) → HasRoomFor n old → HasRoomFor n new
 abbrev pub PutBlockTakesRoom : {W : Type 0} → BlockValue → Result (Unit {0}) Error → WavWriter W
     → Type 0
 PutBlockTakesRoom block r new = OnOk r (HasRoomFor (length (interleave block.channels)) new)
+
+-- ---- silence
+
+-- the bytes of so many samples of silence per channel
+abbrev pub silent_bytes : Layout → ℕ → List ℕ
+silent_bytes layout count =
+    replicate (count * block_align layout) (silence (sample_size layout.valid_bits))
+
+-- This silence was written after all earlier bytes, and its bytes were counted. No call failed.
+pub record PutsSilence {W : Type 0} (contents : W → Option (List ℕ)) (count : ℕ)
+    (old new : WavWriter W) : Type 0 where
+  pub bytes_are : Appends (output_contents contents old) (output_contents contents new)
+      (silent_bytes old.layout count)
+  pub written_is : new.written ≡ old.written + count * block_align old.layout
+  pub none_failed : NoneFailed old new
+
+-- An Ok wrote the silence.
+abbrev pub PutSilenceIsSound : {W : Type 0} → (W → Option (List ℕ)) → ℕ → Result (Unit {0}) Error
+    → WavWriter W → WavWriter W → Type 0
+PutSilenceIsSound contents count r old new = OnOk r (PutsSilence contents count old new)
+
+-- The error says that the bytes are more than a WAV file holds, or it is a failed call of the
+-- output.
+abbrev pub ExplainsSilenceError : {W : Type 0} → ℕ → WavWriter W → Error → Type 0
+ExplainsSilenceError count old TooLong = max_data_size < old.written + count * block_align old.layout
+ExplainsSilenceError count old error = IsOutput error
+
+-- An Err says why the silence was not written.
+abbrev pub PutSilenceFaultIsSound : {W : Type 0} → ℕ → Result (Unit {0}) Error → WavWriter W → Type 0
+PutSilenceFaultIsSound count r old = IfErr r (ExplainsSilenceError count old)
+
+-- A failed write, which was counted, wrote a prefix of the silence. Before any other error there
+-- was no call of the output.
+abbrev pub SilenceErrorKeeps : {W : Type 0} → (W → Option (List ℕ)) → ℕ → Error → WavWriter W
+    → WavWriter W → Type 0
+SilenceErrorKeeps contents count (Output cause) old new =
+    AppendsPrefix (output_contents contents old) (output_contents contents new)
+    (silent_bytes old.layout count)
+    × CountsFailedWrite old.output new.output
+SilenceErrorKeeps contents count error old new = new.output ≡ old.output
+
+-- After an Err no bytes were counted, and of the silence a prefix was written or nothing.
+abbrev pub PutSilenceFaultKeeps : {W : Type 0} → (W → Option (List ℕ)) → ℕ
+    → Result (Unit {0}) Error → WavWriter W → WavWriter W → Type 0
+PutSilenceFaultKeeps contents count r old new =
+    IfErr r (λ error. (new.written ≡ old.written) × SilenceErrorKeeps contents count error old new)
 
 -- The layout and the announced number of bytes stay the same.
 pub record SameHeader {W : Type 0} (old new : WavWriter W) : Type 0 where

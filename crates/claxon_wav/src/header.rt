@@ -100,7 +100,7 @@ impl Layout {
     }
 
     // The number of bytes of a sample.
-    fn sample_size(&self) -> u32
+    pub(crate) fn sample_size(&self) -> u32
         ensures value { result ≡ sample_size self.now.valid_bits }
         ensures some { 1 ≤ result }
         ensures few { result ≤ 4 }
@@ -108,8 +108,8 @@ impl Layout {
         self.valid_bits.div_ceil(8)
     }
 
-    // The number of bytes of one sample of each channel.
-    pub(crate) fn block_align(&self) -> u32
+    /// The number of bytes of one sample of each channel.
+    pub fn block_align(&self) -> u32
         ensures value { result ≡ block_align self.now }
         ensures some { 1 ≤ result }
         ensures few { result ≤ 32 }

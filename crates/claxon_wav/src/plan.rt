@@ -15,10 +15,12 @@ use std::io::Read;
 /// How a stream is converted.
 #[derive(Clone, Copy)]
 pub struct Plan {
-    pub(crate) layout: Layout,
-    // The number of bytes of as many samples as the streaminfo says, if it says how many.
-    pub(crate) announced: Option<u32>,
-    pub(crate) computes_md5: bool,
+    /// The format of the samples.
+    pub layout: Layout,
+    /// The number of bytes of as many samples as the streaminfo says, if it says how many.
+    pub announced: Option<u32>,
+    /// Whether the MD5 sum of the samples is computed.
+    pub computes_md5: bool,
     ghost announced_fits: { ForSome announced (λ n. n ≤ max_data_size) },
 }
 

@@ -90,8 +90,9 @@ fn put_samples<const N: usize>(samples: &[i32], valid_bits: u32, buffer: &mut [u
 }
 
 // The value of silence in a sample of `size` bytes: 8-bit samples are unsigned.
-fn silence(size: usize) -> u32
-    ensures { result ≡ silence size }
+pub(crate) fn silence(size: usize) -> u32
+    ensures value { result ≡ silence size }
+    ensures few { result ≤ 128 }
 {
     if size == 1 { 128 } else { 0 }
 }

@@ -1,10 +1,18 @@
 //! Writing a WAV file.
-ghost use Rattle.std.specs.Prelude.{◌≡◌, ◌≤◌, IfErr, vec_capacity};
+ghost use Rattle.std.specs.Prelude.{◌≡◌, ◌≤◌, IfErr, OnErr, OnOk, replicate, vec_capacity};
+ghost use Rattle.claxon.specs.Error.{IsIo};
+ghost use Rattle.claxon_write.specs.CountingWriter.{
+  CountsFailedWrite,
+  CountsNoFailure,
+  CountsNoFlush,
+  SameInner,
+};
+ghost use Rattle.claxon_write.specs.WriteWhole.{WritesAll, WritesPrefix};
 ghost use Rattle.claxon_wav.specs.DataSize.{max_data_size, max_header_size};
 
 use crate::error::{Error, Result, of_output};
 use crate::header::{Layout, MAX_DATA_SIZE};
-use crate::samples::pack;
+use crate::samples::{pack, silence};
 use claxon::Block;
 use claxon_write::CountingWriter;
 use std::alloc::{Allocator, Global};
@@ -45,6 +53,9 @@ impl<'w, W: Write> WavWriter<'w, W> {
       PutBlockHasMemory,
       PutBlockIsSound,
       PutBlockTakesRoom,
+      PutSilenceFaultIsSound,
+      PutSilenceFaultKeeps,
+      PutSilenceIsSound,
       SameHeader,
       SameOutput,
       StartFaultIsSound,
@@ -161,6 +172,33 @@ impl<'w, W: Write> WavWriter<'w, W> {
         Ok(())
     }
 
+    /// Writes so many samples of silence per channel.
+    ///
+    /// # Errors
+    ///
+    /// `TooLong`, and then nothing was written. `Output` if a write fails, and then a part of the silence was written, and isn't
+    /// counted.
+    pub fn put_silence(&mut self, count: u64) -> Result<()>
+        ensures same_output { SameOutput self.old self.new }
+        ensures is_sound { PutSilenceIsSound W.contents count result self.old self.new }
+        ensures fault_is_sound { PutSilenceFaultIsSound count result self.old }
+        ensures fault_keeps { PutSilenceFaultKeeps W.contents count result self.old self.new }
+        ensures same_header { SameHeader self.old self.new }
+        ensures unflushed { Unflushed self.old self.new }
+        ensures keeps_room { KeepsRoom self.old self.new }
+    {
+        let Some(size) = self.layout.data_size(count) else {
+            return Err(Error::TooLong);
+        };
+        if size > MAX_DATA_SIZE - self.written {
+            return Err(Error::TooLong);
+        }
+        let byte = silence(self.layout.sample_size() as usize) as u8;
+        of_output(write_repeated(&mut self.output, byte, size))?;
+        self.written += size;
+        Ok(())
+    }
+
     /// The number of samples per channel written so far.
     pub fn samples(&self) -> u32
         ensures { result ≡ samples_written self.now }
@@ -245,4 +283,32 @@ impl<'w, W: Write + Seek> WavWriter<'w, W> {
         }
         of_output(self.output.flush())
     }
+}
+
+// How many bytes of silence are written at once.
+const SILENT_BYTES: usize = 4096;
+
+// Writes this byte so many times.
+fn write_repeated<W: Write>(
+    output: &mut CountingWriter<'_, W>,
+    byte: u8,
+    size: u32,
+) -> claxon::Result<()>
+    ensures same_inner { SameInner output.old output.new }
+    ensures writes_all { WritesAll W.contents (replicate size byte) result output.old output.new }
+    ensures writes_prefix { WritesPrefix W.contents (replicate size byte) result output.old
+        output.new }
+    ensures io { IfErr result (λ error. IsIo error) }
+    ensures succeeded { OnOk result (CountsNoFailure output.old output.new) }
+    ensures failed { OnErr result (CountsFailedWrite output.old output.new) }
+    ensures counts_no_flush { CountsNoFlush output.old output.new }
+{
+    let silent = [byte; SILENT_BYTES];
+    let mut left = size as usize;
+    while left > 0 {
+        let count = left.min(SILENT_BYTES);
+        output.write_whole(&silent[..count])?;
+        left -= count;
+    }
+    Ok(())
 }

@@ -20,7 +20,7 @@ loop-i-preserved g c =
     let small : size ≤ 4 = omega (arith, c.requires.size, c.requires.few_bits) in
     let bytes : c.copy_from_slice.new.self ≡ bytes_of_sample size c.args.valid_bits x =
     taken size c.args.valid_bits (8 * size - c.args.valid_bits) c.silence-silence.result x c.scale_up-four.result c.copy_from_slice.new.self c.copy_from_slice.ensures.after
-    (c.scale_up-four.ensures ∙ ap (λ (z : ℤ). to_le_bytes w32 (shifted_sample (8 * size - c.args.valid_bits) c.silence-silence.result z)) (to_z-of_z w32 x f)) refl c.silence-silence.ensures in
+    (c.scale_up-four.ensures ∙ ap (λ (z : ℤ). to_le_bytes w32 (shifted_sample (8 * size - c.args.valid_bits) c.silence-silence.result z)) (to_z-of_z w32 x f)) refl c.silence-silence.ensures.value in
     let len : length c.copy_from_slice.new.self ≡ size = ap length bytes ∙ length-bytes_of_sample size c.args.valid_bits x small in
     let here = chunk_in_bounds size i (length samples) (length c.loop-i.buffer) c.loop-i-test.true (c.loop-i.auto.buffer ∙ c.requires.buffer) in
     stored_more (bytes_of_sample size c.args.valid_bits) samples i size _ c.loop-i.buffer c.copy_from_slice.new.self c.loop-i-test.true (omega (arith, here)) len bytes c.loop-i.invariant

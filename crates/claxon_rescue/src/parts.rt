@@ -1,0 +1,279 @@
+//! The parts of a damaged stream, written one after another.
+ghost use Rattle.std.specs.Prelude.{◌≡◌, ◌≤◌, ◌↔◌, IsTrue, Some};
+ghost use Rattle.claxon.specs.ShownHead.{HasBitDepth};
+ghost use Rattle.claxon_blocks.specs.HashBlock.{HashesToo};
+ghost use Rattle.claxon_recovery.specs.Parts.{after_part};
+ghost use Rattle.claxon_rescue.specs.Rescue.{IsOfStream};
+
+use crate::due::{Due, Rules};
+use crate::losses::{LossKind, Losses, LostRange};
+use claxon::Block;
+use claxon::frame::DecodedFrame;
+use claxon::input::ReadBytes;
+use claxon::metadata::StreamInfo;
+use claxon_blocks::fit::samples_fit;
+use claxon_blocks::hashing::hash_block;
+use claxon_command_line::progress::Progress;
+use claxon_md5::Md5;
+use claxon_recovery::{FrameThere, Part, Parts};
+use claxon_wav::{Error, Result, WavWriter};
+use std::io::{Seek, Write};
+
+/// What was rescued so far.
+#[derive(Drop)]
+pub(crate) struct Rescue {
+    /// What is due next.
+    pub due: Due,
+    /// What is lost.
+    pub losses: Losses,
+    /// The hasher of the samples; none after the first that are missing.
+    pub md5: Option<Md5>,
+}
+
+impl Rescue {
+    ghost use Rattle.claxon_command_line.specs.Progress.{SameErrors, StaysQuiet};
+    ghost use Rattle.claxon_recovery.specs.Parts.{parts_info, parts_position};
+    ghost use Rattle.claxon_rescue.specs.PutParts.{
+      PutPartFaultIsSound,
+      PutPartIsSound,
+      PutPartsFaultIsSound,
+      PutPartsIsSound,
+    };
+    ghost use Rattle.claxon_rescue.specs.PutSteps.{
+      IsFileOf,
+      PutFrameFaultIsSound,
+      PutFrameIsSound,
+      PutGapFaultIsSound,
+      PutGapIsSound,
+    };
+    ghost use Rattle.claxon_rescue.specs.Rescue.{last_sample};
+    ghost use Rattle.claxon_rescue.specs.RescueEnds.{WriteFaultIsSound, WriteIsSound};
+    ghost use Rattle.claxon_rescue.specs.Times.{first_due};
+    ghost use Rattle.claxon_wav.specs.Writer.{KeepsRoom, SameHeader, SameOutput, Unflushed};
+
+    /// Writes the samples of all frames of a stream that begins at this position, and silence where samples are lost.
+    ///
+    /// # Errors
+    ///
+    /// Those of `Parts::next_part`, `WavWriter::put_block` and `WavWriter::put_silence`; `Unsupported` if there are 2^64 - 1
+    /// parts.
+    pub fn put_parts<R: ReadBytes, W: Write, E: Write>(
+        &mut self,
+        parts: &mut Parts<R>,
+        start: u64,
+        rules: &Rules,
+        wav: &mut WavWriter<'_, W>,
+        progress: &mut Progress<'_, '_, E>,
+    ) -> Result<()>
+        requires has_bit_depth { HasBitDepth rules.now.info }
+        requires is_file_of { IsFileOf rules.now.info wav.old }
+        requires same_info { parts_info parts.old ≡ rules.now.info }
+        requires at_start { parts_position parts.old ≡ start }
+        requires first { self.old.due ≡ first_due start }
+        ensures same_output { SameOutput wav.old wav.new }
+        ensures is_sound { PutPartsIsSound R.source W.contents rules.now start parts.old parts.new
+            wav.old wav.new result self.old self.new }
+        ensures fault_is_sound { PutPartsFaultIsSound R.source W.contents rules.now start parts.old
+            parts.new wav.old wav.new result }
+        ensures same_header { SameHeader wav.old wav.new }
+        ensures same_errors { SameErrors progress.old progress.new }
+        ensures stays_quiet { StaysQuiet progress.old progress.new }
+    {
+        let mut end = start;
+        for _ in 0..u64::MAX {
+            let Some(part) = parts.next_part()? else {
+                return self.put_rest(rules, end, wav);
+            };
+            self.put_part(rules, &part, wav)?;
+            progress.show(self.due.sample);
+            end = end_of(&part);
+        }
+        Err(Error::from(too_many()))
+    }
+
+    /// Writes the parts as `put_parts` does, and finishes the file. After an Err what was written before it is in a valid file
+    /// too, unless a call of the output fails.
+    ///
+    /// # Errors
+    ///
+    /// The first one: that of `put_parts`, or of `WavWriter::finish`.
+    pub fn write<R: ReadBytes, W: Write + Seek, E: Write>(
+        &mut self,
+        parts: &mut Parts<R>,
+        start: u64,
+        rules: &Rules,
+        wav: &mut WavWriter<'_, W>,
+        progress: &mut Progress<'_, '_, E>,
+    ) -> Result<()>
+        requires has_bit_depth { HasBitDepth rules.now.info }
+        requires is_file_of { IsFileOf rules.now.info wav.old }
+        requires same_info { parts_info parts.old ≡ rules.now.info }
+        requires at_start { parts_position parts.old ≡ start }
+        requires first { self.old.due ≡ first_due start }
+        ensures same_output { SameOutput wav.old wav.new }
+        ensures is_sound { WriteIsSound R.source W.contents rules.now start parts.old parts.new
+            wav.old wav.new W.stream_position result self.old self.new }
+        ensures fault_is_sound { WriteFaultIsSound R.source W.contents rules.now start parts.old
+            parts.new wav.old wav.new result }
+        ensures same_errors { SameErrors progress.old progress.new }
+        ensures stays_quiet { StaysQuiet progress.old progress.new }
+    {
+        let outcome = self.put_parts(parts, start, rules, wav, progress);
+        let finished = wav.finish();
+        outcome?;
+        finished
+    }
+
+    // Writes what a part gives.
+    fn put_part<W: Write>(
+        &mut self,
+        rules: &Rules,
+        part: &Part,
+        wav: &mut WavWriter<'_, W>,
+    ) -> Result<()>
+        requires has_bit_depth { HasBitDepth rules.now.info }
+        requires is_file_of { IsFileOf rules.now.info wav.old }
+        ensures same_output { SameOutput wav.old wav.new }
+        ensures is_sound { PutPartIsSound W.contents rules.now self.old self.new wav.old wav.new
+            part.now result }
+        ensures fault_is_sound { PutPartFaultIsSound rules.now self.old.due wav.old wav.new part.now
+            result }
+        ensures same_header { SameHeader wav.old wav.new }
+        ensures keeps_room { KeepsRoom wav.old wav.new }
+    {
+        match part {
+            Part::Frame(there) => self.put_frame(rules, there, wav),
+            Part::Damage(_) => Ok(()),
+        }
+    }
+
+    // Writes a frame's samples, if it is one of the stream and in order.
+    fn put_frame<W: Write>(
+        &mut self,
+        rules: &Rules,
+        there: &FrameThere,
+        wav: &mut WavWriter<'_, W>,
+    ) -> Result<()>
+        requires has_bit_depth { HasBitDepth rules.now.info }
+        requires is_file_of { IsFileOf rules.now.info wav.old }
+        ensures same_output { SameOutput wav.old wav.new }
+        ensures is_sound { PutFrameIsSound W.contents rules.now self.old self.new wav.old wav.new
+            there.now result }
+        ensures fault_is_sound { PutFrameFaultIsSound rules.now self.old.due wav.old wav.new there.now
+            result }
+        ensures same_header { SameHeader wav.old wav.new }
+        ensures keeps_room { KeepsRoom wav.old wav.new }
+    {
+        if !is_of_stream(&rules.info, &there.frame) {
+            return Ok(());
+        }
+        let Some(gap) = self.due.gap_before(rules, there) else {
+            self.losses.note(self.due.left_out(rules, there));
+            return Ok(());
+        };
+        self.put_gap(rules, self.due.sample + gap, there.start, wav)?;
+        wav.put_block(&there.frame.block)?;
+        hash(
+            &mut self.md5,
+            &there.frame.block,
+            rules.info.bits_per_sample,
+        );
+        self.due = self.due.after(gap, there);
+        Ok(())
+    }
+
+    // The samples up to this one are missing in the bytes up to this position, if there are any.
+    fn put_gap<W: Write>(
+        &mut self,
+        rules: &Rules,
+        sample: u64,
+        byte: u64,
+        wav: &mut WavWriter<'_, W>,
+    ) -> Result<()>
+        requires is_file_of { IsFileOf rules.now.info wav.old }
+        ensures same_output { SameOutput wav.old wav.new }
+        ensures is_sound { PutGapIsSound W.contents rules.now self.old self.new wav.old wav.new
+            sample byte result }
+        ensures fault_is_sound { PutGapFaultIsSound rules.now self.old.due wav.old wav.new sample
+            result }
+        ensures same_header { SameHeader wav.old wav.new }
+        ensures keeps_room { KeepsRoom wav.old wav.new }
+    {
+        let Due {
+            sample: start_sample,
+            byte: start_byte,
+            ..
+        } = self.due;
+        if start_sample >= sample {
+            return Ok(());
+        }
+        self.md5 = None;
+        self.losses.note(LostRange {
+            kind: LossKind::Missing,
+            start_sample,
+            end_sample: sample,
+            start_byte,
+            end_byte: byte,
+        });
+        if rules.fills_gaps {
+            wav.put_silence(sample - start_sample)?;
+        }
+        Ok(())
+    }
+
+    // The samples are missing from the last frame up to the streaminfo's number of samples.
+    fn put_rest<W: Write>(
+        &mut self,
+        rules: &Rules,
+        byte: u64,
+        wav: &mut WavWriter<'_, W>,
+    ) -> Result<()>
+        requires is_file_of { IsFileOf rules.now.info wav.old }
+        ensures same_output { SameOutput wav.old wav.new }
+        ensures is_sound { PutGapIsSound W.contents rules.now self.old self.new wav.old wav.new
+            (last_sample rules.now self.old.due) byte result }
+        ensures fault_is_sound { PutGapFaultIsSound rules.now self.old.due wav.old wav.new
+            (last_sample rules.now self.old.due) result }
+        ensures same_header { SameHeader wav.old wav.new }
+    {
+        let samples = rules.info.samples.unwrap_or(0).max(self.due.sample);
+        self.put_gap(rules, samples, byte, wav)
+    }
+}
+
+// Hashes the samples of this block too, if there is a hasher.
+fn hash(md5: &mut Option<Md5>, block: &Block, bit_depth: u32)
+    requires min_bit_depth { 1 ≤ bit_depth }
+    requires max_bit_depth { bit_depth ≤ 32 }
+    ensures hashes_too { HashesToo bit_depth block.now md5.old md5.new }
+{
+    if let Some(hasher) = md5 {
+        hash_block(hasher, block, bit_depth);
+    }
+}
+
+// Whether a frame has the streaminfo's number of channels and its sample rate, and its samples fit in the bit depth.
+fn is_of_stream(info: &StreamInfo, frame: &DecodedFrame) -> bool
+    requires has_bit_depth { HasBitDepth info.now }
+    ensures { IsTrue result ↔ IsOfStream info.now frame.now }
+{
+    let rate = frame.info.sample_rate.unwrap_or(info.sample_rate);
+    frame.block.channels() == info.channels
+        && rate == info.sample_rate
+        && samples_fit(&frame.block, info.bits_per_sample)
+}
+
+// The position after a part.
+fn end_of(part: &Part) -> u64
+    ensures { result ≡ after_part 0 (Some part.now) }
+{
+    match part {
+        Part::Frame(there) => there.end,
+        Part::Damage(damage) => damage.end,
+    }
+}
+
+// That there are more parts than are counted.
+fn too_many() -> claxon::Error {
+    claxon::Error::Unsupported("more than 18446744073709551614 parts")
+}
