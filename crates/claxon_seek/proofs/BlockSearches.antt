@@ -8,7 +8,7 @@ use Rattle.claxon.specs.Errors.{Error}
 use Rattle.claxon.specs.Errors.TheVariants.{OutOfMemory}
 use Rattle.claxon.specs.Promises.{IsOutOfMemory}
 use Rattle.claxon.specs.StreamInfos.{StreamInfo}
-use Rattle.claxon_seek.specs.Find.{BeginsWithFrame, FindGives, FrameIsAtStart, SampleIsAtStart, WantedFrame, WantedHeader, WantedHeaderAtStart, known_format, sample_there}
+use Rattle.claxon_seek.specs.Find.{BeginsWithFrame, FindGives, FrameIsAtStart, WantedFrame, WantedHeader, WantedHeaderAtStart, known_format}
 use Rattle.claxon_seek.specs.Seek.{SeekGives, found_at, stopped_at}
 use Rattle.claxon_seek.specs.SeekBlock.{BlockThere, searched}
 use Rattle.claxon_seek.specs.declared.at_start.HeaderInBytes.{HeaderInBytes}
@@ -31,12 +31,6 @@ module _ (known : Option StreamInfo) (bytes : List ℕ) (first sample budget lef
 
   pub first_refused : (e : Error) → FindGives known (Some sample) bytes first budget (searched (Err e)) left → SeekGives known bytes first sample budget (searched (Err e))
   first_refused e g = (g.0, (g.1.0, g.1.1, g.1.2, g.1.3))
-
--- a frame at the start, whose block has the sample
-pub sample_is_there : (known : Option StreamInfo) (bytes : List ℕ) (sample : ℕ) (info : BlockInfo) (f : FrameThere) → WantedHeader known (Some sample) bytes info → FrameIsAtStart known bytes (Ok f) → SampleIsAtStart known sample bytes (Ok (sample_there f info))
-sample_is_there known bytes sample info (Whole len block) wanted h = frame_is_wanted known (Some sample) bytes info wanted (whole_there known bytes len block h)
-sample_is_there known bytes sample info (Faulty len) wanted h = tt
-sample_is_there known bytes sample info CutFrame wanted h = tt
 
 module _ (known : Option StreamInfo) (bytes : List ℕ) (at sample : ℕ) where
   -- no such header

@@ -12,5 +12,3 @@ pub mod BlockSearches
 pub mod BlockMemories
 -- The clauses of a search, from all that it answers.
 pub mod FindCalls
--- A window on a source, and the blocks and samples that a reader finds in it.
-pub mod Readers

@@ -19,7 +19,6 @@ use Rattle.claxon.specs.StreamInfos.{StreamInfo}
 use Rattle.claxon.proofs.BlockInfo.{header_has_two_bytes, headers_unambiguous}
 use Rattle.claxon.proofs.FormatLaws.{frames_unambiguous}
 use Rattle.claxon.proofs.FrameHeaders.{frame_has_header}
-use Rattle.claxon.proofs.OutOfMemory.{not_out_of_memory}
 use Rattle.claxon_seek.specs.AtStart.{BeginsWithLength, FaultIsTaken, FrameAtStart, HeaderAtStart}
 use Rattle.claxon_seek.specs.Find.{BeginsWithFrame, FindGives, FrameIsAtStart, HasFormat, HeaderCost, HeaderCosts, HoldsSample, IsSpent, IsUndecided, NoFrameBetween, WantedFrame, WantedHeader, WantedHeaderAtStart, WastesBytes, known_format, wasted_by}
 use Rattle.claxon_seek.specs.declared.find.FrameThere.{FrameThere}
@@ -78,9 +77,6 @@ module _ (known : Option StreamInfo) (bytes : List ℕ) (taken : ℕ) where
       no_fault = λ f t rest bad e. elim (h.named f (t, rest, bad, e)) [ inl p ↦ no_fault f p | inr m ↦ other m ];
     },
   )
-
-  pub cut_without_bytes : FrameAtStart stream bytes (Ok None) taken → FrameIsAtStart known bytes (Ok CutFrame)
-  cut_without_bytes h = cut (Ok None) h (not_out_of_memory None) (λ block p. p) (λ f p. p)
 
   pub cut_by_io : (cause : _) → FrameAtStart stream bytes (Err (IoError cause)) taken → FrameIsAtStart known bytes (Ok CutFrame)
   cut_by_io cause h = cut (Err (IoError cause)) h (λ m. absurd cc) (λ block p. p) (λ f p. p)

@@ -39,8 +39,6 @@ use Rattle.claxon_seek.specs.declared.find.FrameThere.{FrameThere}
 use Rattle.claxon_seek.specs.declared.find.FrameThere.TheVariants.{CutFrame, Faulty, Whole}
 use Rattle.claxon_seek.specs.declared.find.HeaderThere.{HeaderThere}
 use Rattle.claxon_seek.specs.declared.find.HeaderThere.TheVariants.{CutHeader, NotWanted, Wanted}
-use Rattle.claxon_seek.specs.declared.find.SampleThere.{SampleThere}
-use Rattle.claxon_seek.specs.declared.find.SampleThere.TheVariants.{Absent, Held, Undecided}
 use Rattle.claxon_seek.specs.declared.search.FoundFrame.{FoundFrame}
 use Rattle.claxon_seek.specs.declared.search.Search.{Search}
 use Rattle.claxon_seek.specs.declared.search.Search.TheVariants.{Found, NotFound, OverBudget}
@@ -213,18 +211,6 @@ abbrev pub wasted_by : FrameThere → ℕ → ℕ
 wasted_by (Whole len block) count = 0
 wasted_by (Faulty len) count = len
 wasted_by CutFrame count = count
-
--- what is known of a sample, where a header says that its block has it
-abbrev pub sample_there : FrameThere → BlockInfo → SampleThere
-sample_there (Whole len block) info = Held info
-sample_there (Faulty len) info = Absent
-sample_there CutFrame info = Undecided
-
--- A frame whose block has the sample begins the bytes, if one is said to. An Err is `OutOfMemory`.
-abbrev pub SampleIsAtStart : Option StreamInfo → ℕ → List ℕ → Result SampleThere Error → Type 0
-SampleIsAtStart known sample bytes (Ok (Held info)) = WantedFrame known (Some sample) bytes info
-SampleIsAtStart known sample bytes (Ok _) = Unit {0}
-SampleIsAtStart known sample bytes (Err e) = IsOutOfMemory {A = SampleThere} (Err e)
 
 -- The search found a frame of which P holds.
 abbrev pub IfFound : Result Search Error → (FoundFrame → Type 0) → Type 0

@@ -1,9 +1,6 @@
 pub mod AtStart
-pub mod Attempt
 pub mod BlockMemory
 pub mod Find
 pub mod Likely
 pub mod Seek
 pub mod SeekBlock
-pub mod SeekableReader
-pub mod Window

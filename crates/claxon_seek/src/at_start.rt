@@ -64,21 +64,8 @@ pub fn block_at_start(
     requires { IfSome known (λ info. HasBitDepth info) }
     ensures at_start { FrameAtStart (option_map stream_with known) bytes.now result taken.new }
 {
-    block_in_buffer(Vec::new(alloc), bytes, known, taken)
-}
-
-// `block_at_start`, into the buffer's memory if it is large enough.
-pub(crate) fn block_in_buffer(
-    buffer: Vec<i32>,
-    bytes: &[u8],
-    known: Option<StreamInfo>,
-    taken: &mut usize,
-) -> FrameResult
-    requires { IfSome known (λ info. HasBitDepth info) }
-    ensures at_start { FrameAtStart (option_map stream_with known) bytes.now result taken.new }
-{
     let mut frames = frames_of(bytes, known);
-    let found = frames.read_next_or_eof(buffer);
+    let found = frames.read_next_or_eof(Vec::new(alloc));
     *taken = bytes.len().saturating_sub(left_in(&frames.into_inner()));
     found
 }

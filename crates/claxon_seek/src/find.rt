@@ -14,12 +14,10 @@ ghost use Rattle.claxon_seek.specs.Find.{
   HoldsSample,
   NoneIsNotFound,
   NotFoundIsNone,
-  SampleIsAtStart,
   StopsOverBudget,
   UndecidedIsFirst,
   WantedHeaderAtStart,
   known_format,
-  sample_there,
   wasted_by,
 };
 ghost use Rattle.claxon_seek.specs.SeekBlock.{BlockIsDecoded, decoded_at, searched};
@@ -243,47 +241,6 @@ pub(crate) fn holds_sample(block: &BlockInfo, sample: Option<u64>) -> bool
     match sample {
         Some(sample) => block.time <= sample && sample - block.time < u64::from(block.duration),
         None => true,
-    }
-}
-
-// What a search knows of the frame with a sample that bytes begin with.
-#[derive(Clone, Copy)]
-pub(crate) enum SampleThere {
-    // What its header says.
-    Held(BlockInfo),
-    // There is none.
-    Absent,
-    // The bytes end within what may be one.
-    Undecided,
-}
-
-// The frame that the bytes begin with, if its block has the sample.
-pub(crate) fn sample_at_start(
-    memory: &mut BlockMemory,
-    bytes: &[u8],
-    known: Option<StreamInfo>,
-    sample: u64,
-) -> Result<SampleThere>
-    requires { IfSome known (λ info. HasBitDepth info) }
-    ensures at_start { SampleIsAtStart known sample bytes.now result }
-{
-    let header = match wanted_header(bytes, &known, Some(sample)) {
-        HeaderThere::Wanted(header) => header,
-        HeaderThere::NotWanted => return Ok(SampleThere::Absent),
-        HeaderThere::CutHeader => return Ok(SampleThere::Undecided),
-    };
-    let frame = frame_at_start(memory, bytes, known, header)?;
-    Ok(sample_of(&frame, header.info()))
-}
-
-// What is known of the sample, where a header says that its block has it.
-fn sample_of(frame: &FrameThere, info: BlockInfo) -> SampleThere
-    ensures { result ≡ sample_there frame.now info }
-{
-    match frame {
-        FrameThere::Whole(_, _) => SampleThere::Held(info),
-        FrameThere::Faulty(_) => SampleThere::Absent,
-        FrameThere::CutFrame => SampleThere::Undecided,
     }
 }
 

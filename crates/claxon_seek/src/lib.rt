@@ -5,15 +5,12 @@ mod at_start;
 mod find;
 mod likely;
 mod memory;
-mod reader;
 mod search;
 mod seeking;
-mod window;
 
 pub use at_start::{HeaderInBytes, block_at_start, head_at_start, header_at_start, rest_at_start};
 pub use find::{find_frame, shows_no_header};
 pub use likely::{MAX_STEPS, Span, Step, max_block_size};
 pub use memory::BlockMemory;
-pub use reader::SeekableReader;
 pub use search::{BlockSearch, FoundBlock, FoundFrame, Search};
 pub use seeking::{seek, seek_block};

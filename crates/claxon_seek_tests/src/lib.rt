@@ -1,7 +1,7 @@
-//! Tests of seeking: frames that are found in bytes, and streams that are read from any sample on.
+//! Tests of seeking in bytes: heads, frames that are found, and blocks with a sample.
 #![tactic(auto)]
 
 #[cfg(test)]
 mod find;
 #[cfg(test)]
-mod reader;
+mod heads;

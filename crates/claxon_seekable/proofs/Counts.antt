@@ -33,7 +33,7 @@ module _ {R : Type 0} (a b c : SourceFrames R) (kept : NothingFailed a b) where
 
 -- a move calls nothing
 pub move_calls : {R : Type 0} (position : ℕ) (old new : SourceFrames R) → GoTo position old new → NothingFailed old new
-move_calls position old new go = ((ap window_failures go.window, ap window_refusals go.window), ap spent_budgets go.spent)
+move_calls position old new go = ((ap window_failures go.window, ap window_refusals go.window), ap spent_budgets go.searches)
 
 -- nor does what follows a failed call
 pub failed_before : {R : Type 0} (a b c : SourceFrames R) (x : Error) → CallFailed a b x → NothingFailed b c → CallFailed a c x

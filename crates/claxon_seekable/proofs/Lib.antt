@@ -12,3 +12,5 @@ pub mod Nexts
 pub mod Counts
 -- What a seek finds in a source.
 pub mod Seeks
+-- What the clock is told of what comes next.
+pub mod Clocks

@@ -1,6 +1,6 @@
 -- What a seek finds in a source.
-use Rattle.std.proofs.Common.{◌≡◌, inl, inr, ℕ, ◌+◌, ◌-◌, ◌^◌, ◌<◌, ◌≤◌, List, [], length, Option, None, Some, refl, sym, ap, subst, arith}
-use Rattle.std.specs.Prelude.{Ok, Err}
+use Rattle.std.proofs.Common.{◌≡◌, inl, inr, ℕ, ◌+◌, ◌-◌, ◌^◌, ◌<◌, ◌≤◌, List, [], length, Option, None, Some, refl, sym, ap, subst, ◌∙◌, arith}
+use Rattle.std.specs.Prelude.{Ok, Err, unwrap_or}
 use Rattle.std.proofs.lemmas.Bool.{cases_lt}
 use Rattle.std.proofs.lemmas.List.{length-drop}
 use Rattle.claxon.specs.BlockInfos.{BlockInfo}
@@ -13,7 +13,9 @@ use Rattle.claxon_stream.specs.Held.{held_from}
 use Rattle.claxon_stream.proofs.HeldBytes.{held_after, held_before}
 use Rattle.claxon_stream_seek.specs.Search.{FoundIsHeld}
 use Rattle.claxon_stream_seek.specs.Seeker.{SeekIsPlaced, SeekStartsRight}
-use Rattle.claxon_stream_seek.specs.Sought.{IsSoughtIn}
+use Rattle.claxon_stream_seek.specs.Clock.{clock_time}
+use Rattle.claxon_stream_seek.specs.Sought.{IsSoughtIn, start_of}
+use Rattle.claxon_stream_seek.specs.declared.clock.Clock.{Clock}
 use Rattle.claxon_stream_seek.specs.declared.event.SeekEvent.TheVariants.{Found}
 use Rattle.claxon_stream_seek.specs.declared.seeker.Seeker.{Seeker}
 use Rattle.claxon_stream_seek.specs.declared.event.SoughtFrame.{SoughtFrame}
@@ -21,7 +23,7 @@ use Rattle.claxon_stream_seek.specs.declared.sought.Sought.{Sought}
 use Rattle.claxon.specs.ShownHead.{head_streaminfo}
 use Rattle.claxon_seekable.specs.Searches.{spent_budgets}
 use Rattle.claxon_seekable.specs.SeekableReader.{IsAtSample, KeepsStream, NothingFailed, SeekIsCounted, shown_streaminfo}
-use Rattle.claxon_seekable.specs.SourceFrames.{FindIs, FindSays, FramesStay, GoTo, IsBlockRefused, frames_held}
+use Rattle.claxon_seekable.specs.SourceFrames.{FindIs, FindSays, FramesStay, GoTo, IsBlockRefused, frames_held, frames_spent}
 use Rattle.claxon_seekable.specs.Window.{KeepsCounts, held, place}
 use Rattle.claxon_seekable.proofs.Counts.{then_failed, then_nothing, then_spent}
 use Rattle.claxon_seekable.specs.declared.frames.SourceFrames.{SourceFrames}
@@ -50,14 +52,17 @@ is_placed known sought w found is =
     omega (arith, within (place w) found.position (held w) some, w.fits, length-drop w.taken w.bytes.items)
 
 -- the reader goes to the frame that was found
-pub goes : {R : Type 0} (sought : Sought) (now : SourceFrames R) (new : SeekableReader R) (sample : ℕ) (found : SoughtFrame) → sought.sample ≡ sample
+pub goes : {R : Type 0} (sought : Sought) (now : SourceFrames R) (new : SeekableReader R) (sample : ℕ) (found : SoughtFrame) → sought.sample ≡ sample → sought.clock ≡ new.clock
     → IsSoughtIn (Some (shown_streaminfo new)) sought (frames_held now found.position) found → GoTo found.position now new.frames → IsAtSample new sample (record found.frame.info { time = found.time })
-goes sought now new sample found same is go = record {
+goes sought now new sample found same clock is go = record {
   header = found.frame.info;
   says = refl;
   frame =
       subst (λ (p : ℕ). WantedFrame (Some (shown_streaminfo new)) None (held_from (place new.frames.window) p (held new.frames.window)) found.frame.info) (sym go.position_is)
       (subst (λ (w : Window _). WantedFrame (Some (shown_streaminfo new)) None (held_from (place w) found.position (held w)) found.frame.info) (sym go.window) is.there);
+  time =
+      is.time ∙ subst (λ (k : Clock). start_of sought found.position found.frame.info ≡ unwrap_or (clock_time k found.position found.frame.info) found.frame.info.time) clock refl
+      ∙ subst (λ (p : ℕ). unwrap_or (clock_time new.clock found.position found.frame.info) found.frame.info.time ≡ unwrap_or (clock_time new.clock p found.frame.info) found.frame.info.time) (sym go.position_is) refl;
   starts = omega (arith, is.has.0, is.time, same);
   ends = omega (arith, is.has.1, is.time, same);
 }
@@ -66,18 +71,18 @@ goes sought now new sample found same is go = record {
 pub starts_placed : (s : Seeker) → SeekStartsRight s → SeekIsPlaced s
 starts_placed s right = (right None []).start
 
-module _ (known : Option StreamInfo) (seeking sought : Sought) {R : Type 0} (old new : SourceFrames R) (decoder : new.decoder ≡ old.decoder) (counts : KeepsCounts old.window new.window) (spent : new.spent ≡ old.spent) where
+module _ (known : Option StreamInfo) (seeking sought : Sought) {R : Type 0} (old new : SourceFrames R) (decoder : new.decoder ≡ old.decoder) (counts : KeepsCounts old.window new.window) (spent : frames_spent new ≡ frames_spent old) where
   -- memory for a block was refused
   pub find_refused : (x : Error) → FoundIsHeld (place new.window) (held new.window) known seeking (Err x) → FindIs known sought old (Err x) new
   find_refused x (memory, (position, capacity, header)) =
       let is : x ≡ OutOfMemory = cc in
-      record { decoder = decoder; says = inr (inr (counts, ap spent_budgets spent, (position, (is, (capacity, header))))) }
+      record { decoder = decoder; says = inr (inr (counts, spent, (position, (is, (capacity, header))))) }
 
   -- a frame was found
   pub find_found : seeking ≡ sought → (found : SoughtFrame) → FoundIsHeld (place new.window) (held new.window) known seeking (Ok (Found found)) → FindIs known sought old (Ok (Some found)) new
   find_found same found held = record {
     decoder = decoder;
-    says = (counts, ap spent_budgets spent, subst (λ (s : Sought). (s.first_frame ≤ found.position) × IsSoughtIn known s (frames_held new found.position) found) same held);
+    says = (counts, spent, subst (λ (s : Sought). (s.first_frame ≤ found.position) × IsSoughtIn known s (frames_held new found.position) found) same held);
   }
 
 -- a seek that found none, after the clock was told the first frames, and the length of the source

@@ -14,6 +14,7 @@ use Rattle.std.specs.Prelude.{
   Option,
   None,
   Some,
+  unwrap_or,
   Result,
   Ok,
   Err,
@@ -25,6 +26,7 @@ use Rattle.std.specs.Prelude.{
 use Rattle.std.specs.Io.KnownBytes.{IsAtEnd}
 use Rattle.claxon.specs.BlockInfos.{BlockInfo}
 use Rattle.claxon.specs.Error.{IsFault, IsIo}
+use Rattle.claxon.specs.DecodedFrame.{FrameWithHeader}
 use Rattle.claxon.specs.Errors.{Error}
 use Rattle.claxon.specs.Errors.TheVariants.{OutOfMemory}
 use Rattle.claxon.specs.Fault.{Fault}
@@ -43,9 +45,18 @@ use Rattle.claxon_stream.specs.DecodedAtStart.{BeginsWithLength}
 use Rattle.claxon_stream.specs.Event.{IsOpen}
 use Rattle.claxon_stream.specs.FrameDecoder.{IsOverBudget}
 use Rattle.claxon_stream.specs.declared.event.Event.{Event}
+use Rattle.claxon_stream.specs.declared.event.Event.TheVariants.{Cut, Decoded, End, Faulty, ReadOn}
+use Rattle.claxon_stream_seek.specs.Clock.{
+  NoteKeepsOrder,
+  NoteKeepsRight,
+  NoteKnowsUnit,
+  clock_time,
+}
+use Rattle.claxon_stream_seek.specs.declared.clock.Clock.{Clock}
 use Rattle.claxon_seekable.specs.SourceFrames.{
   IsBlockRefused,
   NextIs,
+  frames_fruitless,
   frames_held,
   frames_position,
   frames_source,
@@ -95,6 +106,11 @@ bytes_from s position = frames_held s.frames position
 abbrev pub bytes_read : {R : Type 0} → SeekableReader R → List ℕ
 bytes_read s = bytes_from s (reader_position s)
 
+-- the sample at which the block begins of a frame at the position: by the clock of the reader, or
+-- as its header says where the clock doesn't know
+abbrev pub block_time : {R : Type 0} → SeekableReader R → BlockInfo → ℕ
+block_time s header = unwrap_or (clock_time s.clock (reader_position s) header) header.time
+
 -- the wrapped reader
 abbrev pub wrapped : {R : Type 0} → SeekableReader R → R
 wrapped s = frames_source s.frames
@@ -137,15 +153,43 @@ abbrev pub BlockRefused : {R : Type 0} → StreamInfo → SourceFrames R → Err
 BlockRefused info new e =
     (position : ℕ) × IsBlockRefused (Some info) (frames_held new position) e
 
+-- ---- the clock
+
+-- A clock was told of a frame from a position on, which ends at another, by what its header says.
+abbrev pub IsNoted : ℕ → ℕ → BlockInfo → Clock → Clock → Type 0
+IsNoted at end info old new =
+    NoteKeepsRight at end info old new
+    × (NoteKeepsOrder at end info old new × NoteKnowsUnit at end info old new)
+
+-- The clock is told of each frame that comes next, and of nothing else.
+abbrev pub EventIsNoted : {R : Type 0} → SeekableReader R → Result Event Error → SeekableReader R
+    → Type 0
+EventIsNoted old (Ok (Decoded frame)) new =
+    IsNoted (reader_position old) (reader_position new) frame.info old.clock new.clock
+EventIsNoted old (Ok End) new = new.clock ≡ old.clock
+EventIsNoted old (Ok (Faulty fault)) new = new.clock ≡ old.clock
+EventIsNoted old (Ok (Cut at)) new = new.clock ≡ old.clock
+EventIsNoted old (Ok (ReadOn needed)) new = new.clock ≡ old.clock
+EventIsNoted old (Err e) new = new.clock ≡ old.clock
+
 -- ---- a seek
 
+-- A search found no frame.
+abbrev pub IsFruitless : {R : Type 0} → SeekableReader R → SeekableReader R → Type 0
+IsFruitless old new = IsOneMore (frames_fruitless old.frames) (frames_fruitless new.frames)
+
+-- The counts of searches stay.
+abbrev pub SearchesStay : {R : Type 0} → SeekableReader R → SeekableReader R → Type 0
+SearchesStay old new = new.frames.searches ≡ old.frames.searches
+
 -- The bytes that are held begin with a frame of the stream, whose header says this, but for the
--- time at which the block begins, and the block has the sample.
+-- time at which the block begins, which is the clock's, and the block has the sample.
 pub record IsAtSample {R : Type 0} (s : SeekableReader R) (sample : ℕ) (block : BlockInfo) : Type 0
   where
     pub header : BlockInfo
     pub says : block ≡ record header { time = block.time }
     pub frame : WantedFrame (Some (shown_streaminfo s)) None (bytes_read s) header
+    pub time : block.time ≡ block_time s header
     pub starts : block.time ≤ sample
     pub ends : sample < block.time + block.duration
 
@@ -170,11 +214,12 @@ ElseStays old (Ok None) new = reader_position new ≡ reader_position old
 ElseStays old (Ok (Some block)) new = Unit {0}
 ElseStays old (Err e) new = reader_position new ≡ reader_position old
 
--- At an Ok no call failed. At an Err one did, or a budget was spent, or memory for a block was
--- refused.
+-- At an Ok no call failed, and at None one search found no frame. At an Err a call failed, or a
+-- budget was spent, or memory for a block was refused.
 abbrev pub SeekIsCounted : {R : Type 0} → SeekableReader R → SeekAnswer → SeekableReader R
     → Type 0
-SeekIsCounted old (Ok found) new = NothingFailed old.frames new.frames
+SeekIsCounted old (Ok None) new = NothingFailed old.frames new.frames × IsFruitless old new
+SeekIsCounted old (Ok (Some block)) new = NothingFailed old.frames new.frames
 SeekIsCounted old (Err e) new =
     CallFailed old.frames new.frames e
     ⊎ (BudgetSpent old.frames new.frames e
@@ -235,6 +280,16 @@ module _ {R : Type 0} (old : SeekableReader R) (result : FrameAnswer) (new : See
   abbrev pub NextFaultIsSound : Type 0
   NextFaultIsSound = IfOtherErr result (λ e.
       (f : Fault) × IsFault f e × Passes (FrameBytesFault (shown_format old) f) old new)
+
+-- The clock is told of the frame of a block that is returned, and of nothing else.
+abbrev pub NextIsNoted : {R : Type 0} → SeekableReader R → FrameAnswer → SeekableReader R → Type 0
+NextIsNoted old (Ok (Some block)) new =
+    (info : BlockInfo)
+    × Passes (FrameWithHeader (shown_format old) (record { info = info; block = block_view block }))
+    old new
+    × IsNoted (reader_position old) (reader_position new) info old.clock new.clock
+NextIsNoted old (Ok None) new = new.clock ≡ old.clock
+NextIsNoted old (Err e) new = new.clock ≡ old.clock
 
 -- The stream ends within what may be a frame, and all is consumed.
 pub record IsCut {R : Type 0} (old new : SeekableReader R) : Type 0 where

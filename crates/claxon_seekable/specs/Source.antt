@@ -43,6 +43,10 @@ is_position (Some end) position = end == position
 abbrev pub ends_at : {R : Type 0} → CountingSource R → ℕ → Bool
 ends_at s position = is_position s.ended_at position
 
+-- The source is known to be at this position.
+abbrev pub IsAt : {R : Type 0} → CountingSource R → ℕ → Type 0
+IsAt s position = s.position ≡ Some position
+
 -- that is forgotten
 abbrev pub without_end : {R : Type 0} → CountingSource R → CountingSource R
 without_end s = record {
@@ -79,6 +83,11 @@ abbrev pub ReadEnds : {R E : Type 0} → ℕ → Result ℕ E → CountingSource
 ReadEnds position (Ok zero) new = new.ended_at ≡ Some position
 ReadEnds position (Ok (suc n)) new = new.ended_at ≡ None
 ReadEnds position (Err e) new = new.ended_at ≡ None
+
+-- The source is after the bytes that were read at this position.
+abbrev pub ReadMoves : {R E : Type 0} → ℕ → Result ℕ E → CountingSource R → Type 0
+ReadMoves position (Ok count) new = IsAt new (position + count)
+ReadMoves position (Err e) new = Unit {0}
 
 -- So many bytes are in the buffer, and the position after them has 64 bits.
 abbrev pub ReadFits : ℕ → List ℕ → ℕ → Type 0

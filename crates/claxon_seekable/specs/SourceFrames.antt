@@ -33,7 +33,7 @@ use Rattle.claxon_stream.specs.declared.frames.FrameDecoder.{FrameDecoder}
 use Rattle.claxon_stream_seek.specs.Sought.{IsSoughtIn}
 use Rattle.claxon_stream_seek.specs.declared.event.SoughtFrame.{SoughtFrame}
 use Rattle.claxon_stream_seek.specs.declared.sought.Sought.{Sought}
-use Rattle.claxon_seekable.specs.Searches.{spent_budgets}
+use Rattle.claxon_seekable.specs.Searches.{fruitless_searches, spent_budgets}
 use Rattle.claxon_seekable.specs.Source.{EndIsTold}
 use Rattle.claxon_seekable.specs.Window.{
   CallIsCounted,
@@ -61,23 +61,27 @@ frames_held s position = held_from (place s.window) position (held s.window)
 abbrev pub frames_source : {R : Type 0} → SourceFrames R → R
 frames_source s = window_source s.window
 
--- how many seeks were over their budget
+-- how many searches were over their budget
 abbrev pub frames_spent : {R : Type 0} → SourceFrames R → ℕ
-frames_spent s = spent_budgets s.spent
+frames_spent s = spent_budgets s.searches
+
+-- how many found no frame
+abbrev pub frames_fruitless : {R : Type 0} → SourceFrames R → ℕ
+frames_fruitless s = fruitless_searches s.searches
 
 pub record AreNew {R : Type 0} (source : R) (position : ℕ) (s : SourceFrames R) : Type 0 where
   pub source_is : frames_source s ≡ source
   pub position_is : frames_position s ≡ position
 
--- The position stays, and the count of seeks.
+-- The position stays, and the counts of searches.
 abbrev pub FramesStay : {R : Type 0} → SourceFrames R → SourceFrames R → Type 0
-FramesStay old new = (new.decoder ≡ old.decoder) × (new.spent ≡ old.spent)
+FramesStay old new = (new.decoder ≡ old.decoder) × (new.searches ≡ old.searches)
 
 -- The bytes that are held stay, and the counts.
 pub record GoTo {R : Type 0} (position : ℕ) (old new : SourceFrames R) : Type 0 where
   pub position_is : frames_position new ≡ position
   pub window : new.window ≡ old.window
-  pub spent : new.spent ≡ old.spent
+  pub searches : new.searches ≡ old.searches
 
 abbrev pub FramesCallIsCounted : {R A : Type 0} → SourceFrames R → Result A Error
     → SourceFrames R → Type 0
@@ -162,27 +166,28 @@ module _ (known : Option StreamInfo) where
     pub right : result ≡ Ok None → NotesAreRight new decoder
     pub end_is_told : EndIsTold remaining old.source → EndIsTold remaining new.source
 
-  -- What comes next, and the count of seeks stays.
+  -- What comes next, and the counts of searches stay.
   abbrev pub NextIs : {R : Type 0} → (R → Option (List ℕ)) → SourceFrames R → Result Event Error
       → SourceFrames R → Type 0
   NextIs remaining old result new =
       NextGives old.window (frames_position old) remaining result new.window new.decoder
-      × (new.spent ≡ old.spent)
+      × (new.searches ≡ old.searches)
 
   abbrev pub TryIs : {R : Type 0} → (R → Option (List ℕ)) → SourceFrames R
       → Result (Option Event) Error → SourceFrames R → Type 0
   TryIs remaining old result new =
       TryGives remaining old.window (frames_position old) result new.window new.decoder
-      × (new.spent ≡ old.spent)
+      × (new.searches ≡ old.searches)
 
 -- ---- what a seek finds
 
 module _ (known : Option StreamInfo) (sought : Sought) {R : Type 0} (old : SourceFrames R) where
-  -- A frame that stands in the bytes that are held; none; a failed call or a spent budget, which
+  -- A frame that stands in the bytes that are held; none, a failed call or a spent budget, which
   -- are counted; or memory for a block was refused, of which a header is held.
   abbrev pub FindSays : Result (Option SoughtFrame) Error → SourceFrames R → Type 0
   FindSays (Ok None) new =
       KeepsCounts old.window new.window × (frames_spent new ≡ frames_spent old)
+      × IsOneMore (frames_fruitless old) (frames_fruitless new)
   FindSays (Ok (Some found)) new =
       KeepsCounts old.window new.window × (frames_spent new ≡ frames_spent old)
       × ((sought.first_frame ≤ found.position)

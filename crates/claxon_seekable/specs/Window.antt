@@ -4,7 +4,10 @@ use Rattle.std.specs.Prelude.{
   ◌⊎◌,
   ℕ,
   ◌+◌,
+  ◌-◌,
+  ◌^◌,
   ◌≤◌,
+  min,
   Bool,
   true,
   List,
@@ -27,6 +30,7 @@ use Rattle.claxon_stream.specs.Held.{held_from}
 use Rattle.claxon_seekable.specs.Memory.{refused_requests}
 use Rattle.claxon_seekable.specs.Source.{
   EndIsTold,
+  IsAt,
   ends_at,
   failed_calls,
   inner_source,
@@ -110,6 +114,20 @@ pub record ForgetsEnd {R : Type 0} (old new : Window R) : Type 0 where
 -- So many bytes are held, or the source ends after those that are.
 abbrev pub ReadsMore : {R : Type 0} → ℕ → Window R → Type 0
 ReadsMore wanted w = (wanted ≤ length (held w)) ⊎ (has_end w ≡ true)
+
+-- The source is after the bytes that are held: each of them was read at its position.
+abbrev pub IsAfterHeld : {R : Type 0} → Window R → Type 0
+IsAfterHeld w = IsAt w.source (place w + length (held w))
+
+-- So it is if more bytes are held than before.
+abbrev pub ReadsInTurn : {R : Type 0} → Window R → Window R → Type 0
+ReadsInTurn old new = (held new ≡ held old) ⊎ IsAfterHeld new
+
+-- Of what was held the bytes from the position on are kept, and more may be read after them. No
+-- position is 2 ^ 64 - 1 or later.
+pub record ReadsFrom {R : Type 0} (position : ℕ) (old new : Window R) : Type 0 where
+  pub place_is : place new ≡ min position (2 ^ 64 - 2)
+  pub reads_on : ReadsOn (held_from (place old) (place new) (held old)) (held new)
 
 -- No byte is passed, and there is room for a read.
 abbrev pub HasRoom : {R : Type 0} → Window R → Type 0

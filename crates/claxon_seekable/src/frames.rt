@@ -6,7 +6,7 @@ ghost use Rattle.claxon_stream.specs.FrameDecoder.{decoder_position};
 ghost use Rattle.claxon_stream_seek.specs.Seeker.{SeekIsPlaced, sought_by};
 ghost use Rattle.claxon_seekable.specs.Window.{place};
 
-use crate::searches::SpentBudgets;
+use crate::searches::SearchCounts;
 use crate::window::Window;
 use claxon::metadata::StreamInfo;
 use claxon::{Error, Result};
@@ -21,7 +21,7 @@ use std::io::{Read, Seek};
 pub(crate) struct SourceFrames<R> {
     window: Window<R>,
     decoder: FrameDecoder,
-    spent: SpentBudgets,
+    searches: SearchCounts,
     alloc: Global,
     ghost placed: { decoder_position decoder < 2 ^ 64 - 1 },
 }
@@ -42,7 +42,7 @@ impl<R> SourceFrames<R> {
         SourceFrames {
             window: Window::new(alloc, source, position),
             decoder: FrameDecoder::new(position),
-            spent: SpentBudgets::new(),
+            searches: SearchCounts::new(),
             alloc,
         }
     }
@@ -68,7 +68,7 @@ impl<R> SourceFrames<R> {
         let SourceFrames {
             window,
             decoder: _,
-            spent: _,
+            searches: _,
             alloc: _,
         } = self;
         window.into_source()
@@ -149,8 +149,8 @@ impl<R: Read + Seek> SourceFrames<R> {
     {
         let mut seeker = seeker;
         self.window.forget_end();
-        for _ in 0..u64::MAX {
-            let answer = self.spent.seek_next(
+        loop {
+            let answer = self.searches.seek_next(
                 &mut seeker,
                 self.alloc,
                 self.window.held(),
@@ -165,7 +165,6 @@ impl<R: Read + Seek> SourceFrames<R> {
                 SeekEvent::ReadOn(needed) => self.window.read_on(needed)?,
             }
         }
-        Ok(None)
     }
 }
 

@@ -47,6 +47,7 @@ impl<R: Read + Seek> SeekableReader<R> {
     ghost use Rattle.claxon.specs.Tags.{remaining_tags, remaining_values};
     ghost use Rattle.claxon_seekable.specs.SeekableReader.{
       ElseStays,
+      EventIsNoted,
       GoesToFrames,
       GoesToSample,
       HeadIsShown,
@@ -55,10 +56,12 @@ impl<R: Read + Seek> SeekableReader<R> {
       NextHasSample,
       NextIsComplete,
       NextIsCounted,
+      NextIsNoted,
       NextIsSound,
       NextKeepsBytes,
       NextNoneIsEof,
       NoteIsCounted,
+      SearchesStay,
       SeekIsCounted,
       bytes_read,
       first_frame,
@@ -208,6 +211,7 @@ impl<R: Read + Seek> SeekableReader<R> {
         ensures fault_is_sound { NextFaultIsSound self.old result self.new }
         ensures keeps_bytes { NextKeepsBytes self.old self.new }
         ensures is_counted { NextIsCounted self.old result self.new }
+        ensures is_noted { NextIsNoted self.old result self.new }
         ensures keeps_stream { KeepsStream self.old self.new }
     {
         match self.next_event(buffer)? {
@@ -222,6 +226,7 @@ impl<R: Read + Seek> SeekableReader<R> {
     // What comes next. The clock is told of a frame.
     fn next_event(&mut self, buffer: Vec<i32>) -> Result<Event>
         ensures is { next_event_is R.remaining self.old result self.new }
+        ensures is_noted { EventIsNoted self.old result self.new }
         ensures keeps_stream { KeepsStream self.old self.new }
     {
         let at = self.frames.position();
@@ -237,6 +242,7 @@ impl<R: Read + Seek> SeekableReader<R> {
     fn note_first_frames(&mut self) -> Result<()>
         ensures stays { reader_position self.new ≡ reader_position self.old }
         ensures is_counted { NoteIsCounted self.old result self.new }
+        ensures keeps_searches { SearchesStay self.old self.new }
         ensures keeps_stream { KeepsStream self.old self.new }
     {
         if !self.needs_first_frames {
@@ -252,6 +258,7 @@ impl<R: Read + Seek> SeekableReader<R> {
 
     fn note_two_frames(&mut self) -> Result<()>
         ensures is_counted { NoteIsCounted self.old result self.new }
+        ensures keeps_searches { SearchesStay self.old self.new }
         ensures keeps_stream { KeepsStream self.old self.new }
     {
         for _ in 0..2 {

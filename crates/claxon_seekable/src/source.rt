@@ -11,6 +11,7 @@ ghost use Rattle.claxon_seekable.specs.Source.{
   IsNewSource,
   ReadEnds,
   ReadFits,
+  ReadMoves,
   ends_at,
   inner_source,
   without_end,
@@ -99,6 +100,7 @@ impl<R: Read + Seek> CountingSource<R> {
         requires has_room { 0 < length buf.old }
         ensures fits { IfOk result (λ count. ReadFits position buf.new count) }
         ensures counts_call { CountsCall self.old result self.new }
+        ensures moves { ReadMoves position result self.new }
         ensures ends { ReadEnds position result self.new }
         ensures end_is_told { EndIsTold R.remaining self.new }
     {

@@ -13,8 +13,7 @@ ghost use Rattle.std.specs.Prelude.{
   vec_capacity,
   vec_len,
 };
-ghost use Rattle.claxon_stream.specs.Held.{held_from};
-ghost use Rattle.claxon_seekable.specs.Source.{CountsCall, EndIsTold, ReadEnds, ReadFits};
+ghost use Rattle.claxon_seekable.specs.Source.{CountsCall, EndIsTold, ReadEnds, ReadMoves};
 
 use crate::memory::ByteMemory;
 use crate::source::CountingSource;
@@ -128,9 +127,11 @@ impl<R: Read + Seek> Window<R> {
     ghost use Rattle.claxon_seekable.specs.Window.{
       CallIsCounted,
       HasRoom,
-      KeepsCounts,
+      IsAfterHeld,
       KeepsEndTold,
       KeepsHeld,
+      ReadsFrom,
+      ReadsInTurn,
       ReadsMore,
       ReadsOn,
       WindowEndIsTold,
@@ -149,6 +150,8 @@ impl<R: Read + Seek> Window<R> {
 
     // Reads so many bytes from the position on, unless the source ends before.
     pub(crate) fn read_on(&mut self, needed: NeededBytes) -> Result<()>
+        ensures reads_from { ReadsFrom needed.position self.old self.new }
+        ensures is_full { IfOk result (λ _. ReadsMore needed.count self.new) }
         ensures is_counted { CallIsCounted self.old result self.new }
     {
         self.move_to(needed.position.min(u64::MAX - 1));
@@ -160,6 +163,7 @@ impl<R: Read + Seek> Window<R> {
         ensures reads_on { ReadsOn (held self.old) (held self.new) }
         ensures place { place self.new ≡ place self.old }
         ensures is_full { IfOk result (λ _. ReadsMore wanted self.new) }
+        ensures in_turn { IfOk result (λ _. ReadsInTurn self.old self.new) }
         ensures is_counted { CallIsCounted self.old result self.new }
         ensures keeps_end_told { KeepsEndTold R.remaining self.old self.new }
     {
@@ -174,6 +178,7 @@ impl<R: Read + Seek> Window<R> {
         ensures reads_on { ReadsOn (held self.old) (held self.new) }
         ensures place { place self.new ≡ place self.old }
         ensures more { OnOk result (ReadsMore (length (held self.old) + 1) self.new) }
+        ensures is_after { OnOk result (IsAfterHeld self.new) }
         ensures is_counted { CallIsCounted self.old result self.new }
         ensures end_is_told { WindowEndIsTold R.remaining self.old self.new }
     {
@@ -229,6 +234,7 @@ fn read_after<R: Read + Seek>(
     ensures front { take len buffer.new ≡ take len buffer.old }
     ensures fits { IfOk result (λ count. (len + count ≤ length buffer.new) × (position + count < u64.MAX)) }
     ensures counts_call { CountsCall source.old result source.new }
+    ensures moves { ReadMoves position result source.new }
     ensures ends { ReadEnds position result source.new }
     ensures end_is_told { EndIsTold R.remaining source.new }
 {

@@ -6,10 +6,10 @@ use Rattle.std.proofs.lemmas.Option.{slice_get_within}
 use Rattle.claxon.specs.BlockInfos.{BlockInfo}
 use Rattle.claxon.specs.StreamInfos.{StreamInfo}
 use Rattle.claxon_stream_seek.specs.Clock.{CountsRight, HasLast, HasSeen, IsLast, IsLearnt, IsLearntBy, IsRightOf, KnowsUnit, counted_after, follows, time_after, time_by_number}
-use Rattle.claxon_stream_seek.specs.Timeline.{AreTogether, IsFixed, IsFrame, IsSteady, IsTimeline, Placed, begins_at}
+use Rattle.claxon_stream_seek.specs.Timeline.{AreTogether, IsFixed, IsFrame, IsSteady, IsTimeline, IsVariable, Placed, begins_at}
 use Rattle.claxon_stream_seek.specs.declared.clock.Clock.{Clock}
 use Rattle.claxon_stream_seek.specs.declared.clock.Counted.{Counted}
-use Rattle.claxon_stream_seek.specs.declared.clock.Counted.TheVariants.{Blocks, NotKnown, Samples, VaryingBlocks}
+use Rattle.claxon_stream_seek.specs.declared.clock.Counted.TheVariants.{Blocks, NotKnown, Samples, VariableBlocks, VaryingBlocks}
 use Rattle.claxon_stream_seek.proofs.Timelines.{begins_next, first_is_zero, fixed_time, next_frame, next_number}
 
 -- what it is that a frame follows the last one
@@ -64,9 +64,10 @@ module _ (frames : List Placed) (t : IsTimeline frames) where
         let is : size ≡ steady.size = same i x e (omega (arith, n, some)) in
         ap (λ (k : ℕ). k * size) n ∙ ap (λ (k : ℕ). i * k) is ∙ sym (fixed_time frames t known steady i x e)
 
-    by_number : (counted : Counted) (size : ℕ) → CountsRight known frames steady counted size → x.info.is_variable ≡ false → x.info.number ≢ 0 → (counted ≡ Samples) ⊎ (counted ≡ Blocks) → time_by_number counted x.info.number size ≡ Some (begins_at frames i)
-    by_number NotKnown size c v some k = elim k [ inl a ↦ absurd cc | inr b ↦ absurd cc ]
+    by_number : (counted : Counted) (size : ℕ) → CountsRight known frames steady counted size → x.info.is_variable ≡ false → x.info.number ≢ 0 → (counted ≡ Samples) ⊎ ((counted ≡ Blocks) ⊎ (counted ≡ VariableBlocks)) → time_by_number counted x.info.number size ≡ Some (begins_at frames i)
+    by_number NotKnown size c v some k = elim k [ inl a ↦ absurd cc | inr b ↦ elim b [ inl a ↦ absurd cc | inr d ↦ absurd cc ] ]
     by_number VaryingBlocks size c v some k = absurd c
+    by_number VariableBlocks size c v some k = absurd (false≢true (sym v ∙ (c i x e).0))
     by_number Samples size c v some k = ap (λ (n : ℕ). Some n) (c i x e)
     by_number Blocks size c v some k = elim c [
       | inl var ↦ absurd (false≢true (sym v ∙ (var i x e).0))
@@ -83,8 +84,9 @@ module _ (frames : List Placed) (t : IsTimeline frames) where
     exact_by : (counted : Counted) (size : ℕ) → CountsRight known frames steady counted size → x.info.is_variable ≡ false → x.info.number ≢ 0 → IfSome (time_by_number counted x.info.number size) (λ time. time ≡ begins_at frames i)
     exact_by NotKnown size c v some = tt
     exact_by VaryingBlocks size c v some = tt
+    exact_by VariableBlocks size c v some = tt
     exact_by Samples size c v some = exact_of _ (by_number Samples size c v some (inl refl))
-    exact_by Blocks size c v some = exact_of _ (by_number Blocks size c v some (inr refl))
+    exact_by Blocks size c v some = exact_of _ (by_number Blocks size c v some (inr (inl refl)))
 
     pub exact_by_number : x.info.is_variable ≡ false → x.info.number ≢ 0 → IfSome (time_by_number s.counted x.info.number s.block_size) (λ time. time ≡ begins_at frames i)
     exact_by_number v some = exact_by s.counted s.block_size r.counts v some
@@ -96,6 +98,7 @@ module _ (frames : List Placed) (t : IsTimeline frames) where
       frames_counted NotKnown size c some is fixed = (inr (fixed, λ k y g lt. is), refl)
       frames_counted Samples size c some is fixed = (inr (fixed, λ k y g lt. is), refl)
       frames_counted VaryingBlocks size c some is fixed = absurd c
+      frames_counted VariableBlocks size c some is fixed = absurd (false≢true (sym variable ∙ (c i x e).0))
       frames_counted Blocks size c some is fixed =
           let same : size ≡ s.duration = elim c [
             | inl var ↦ absurd (false≢true (sym variable ∙ (var i x e).0))
@@ -120,7 +123,7 @@ module _ (frames : List Placed) (t : IsTimeline frames) where
                 let within = slice_get_within frames i x e in
                 let is : s.duration ≡ steady.size = last.duration ∙ steady.same k.0 y last.is (omega (arith, within, k.2)) in
                 let c = frames_counted s.counted s.block_size r.counts (omega (arith, k.2)) is q.1 in
-                as_learnt _ (l.blocks more step) (c.0, inr c.1))
+                as_learnt _ (l.blocks more step) (c.0, inr (inl c.1)))
           ]
 
 -- ---- the sample after a frame
@@ -140,6 +143,18 @@ after_fits : (v d : ℕ) → v + d < 2 ^ 64 → time_after (Some v) d ≡ Some (
 after_fits v d lt = cond-true (nat_lt (v + d) (2 ^ 64)) (Some (v + d)) None (lt-ltb _ _ lt)
 
 -- ---- a frame is noted
+
+unit_kept : (between new : Clock) → new.counted ≡ between.counted → KnowsUnit between → KnowsUnit new
+unit_kept between new is k = elim k [ inl a ↦ inl (is ∙ a) | inr b ↦ inr (elim b [ inl a ↦ inl (is ∙ a) | inr d ↦ inr (is ∙ d) ]) ]
+
+unit_of_variable : (old between : Clock) → between ≡ record old { counted = VariableBlocks } → KnowsUnit between
+unit_of_variable old between is = subst KnowsUnit (sym is) (inr (inr refl))
+
+pub knows_variable : (at : ℕ) (info : BlockInfo) (old between new : Clock) → IsLearntBy at info old between → new.counted ≡ between.counted → info.is_variable ≡ true → KnowsUnit new
+knows_variable at info old between new learns is v = elim learns [
+  | inl p ↦ unit_kept between new is (unit_of_variable old between p.1)
+  | inr p ↦ absurd (false≢true (sym p.0 ∙ v))
+]
 
 abbrev placed : ℕ → ℕ → BlockInfo → Placed
 placed at end info = record { at = at; end = end; info = info }
@@ -165,12 +180,27 @@ module _ {at end : ℕ} {info : BlockInfo} {old between new : Clock} (time : Opt
       stays : between ≡ old → CountsRight known frames steady between.counted between.block_size
       stays is = subst (λ (c : Clock). CountsRight known frames steady c.counted c.block_size) (sym is) r.counts
 
+      sizes_vary : info.is_variable ≡ true → IsVariable frames
+      sizes_vary is = elim t.numbers [
+        | inl v ↦ v
+        | inr other ↦ elim other [
+          | inl o ↦ absurd (false≢true (sym ((o i (placed at end info) e).0) ∙ is))
+          | inr n ↦ absurd (false≢true (sym ((n i (placed at end info) e).0) ∙ is))
+        ]
+      ]
+
+      of_variable : info.is_variable ≡ true → between ≡ record old { counted = VariableBlocks } → CountsRight known frames steady between.counted between.block_size
+      of_variable is e = subst (λ (c : Clock). CountsRight known frames steady c.counted c.block_size) (sym e) (sizes_vary is)
+
       counts : CountsRight known frames steady between.counted between.block_size
       counts = elim learns [
-        | inl p ↦ stays p.0
-        | inr p ↦ elim (cases_eq old.duration 1) [
-          | inl one ↦ stays (p.2.one one)
-          | inr more ↦ (learnt_counts frames t known steady old r i (placed at end info) e between p.0 p.1 p.2 more).0
+        | inl p ↦ of_variable p.0 p.1
+        | inr p ↦ elim p.1 [
+          | inl q ↦ stays q.1
+          | inr q ↦ elim (cases_eq old.duration 1) [
+            | inl one ↦ stays (q.1.one one)
+            | inr more ↦ (learnt_counts frames t known steady old r i (placed at end info) e between p.0 q.0 q.1 more).0
+          ]
         ]
       ]
 
@@ -189,22 +219,25 @@ module _ {at end : ℕ} {info : BlockInfo} {old between new : Clock} (time : Opt
         counts = counts_as counts;
       }
 
-      knows : KnowsUnit between → KnowsUnit new
-      knows k = elim k [ inl a ↦ inl (last.counts ∙ a) | inr b ↦ inr (last.counts ∙ b) ]
-
       pub keeps_unit : KnowsUnit old → KnowsUnit new
-      keeps_unit k = knows (elim learns [
-        | inl p ↦ subst KnowsUnit (sym p.0) k
-        | inr p ↦ elim (cases_eq old.duration 1) [
-          | inl one ↦ subst KnowsUnit (sym (p.2.one one)) k
-          | inr more ↦ (learnt_counts frames t known steady old r i (placed at end info) e between p.0 p.1 p.2 more).1
+      keeps_unit k = unit_kept between new last.counts (elim learns [
+        | inl p ↦ unit_of_variable old between p.1
+        | inr p ↦ elim p.1 [
+          | inl q ↦ subst KnowsUnit (sym q.1) k
+          | inr q ↦ elim (cases_eq old.duration 1) [
+            | inl one ↦ subst KnowsUnit (sym (q.1.one one)) k
+            | inr more ↦ (learnt_counts frames t known steady old r i (placed at end info) e between p.0 q.0 q.1 more).1
+          ]
         ]
       ])
 
       pub learns_unit : info.is_variable ≡ false → follows old at info ≡ true → old.duration ≢ 1 → KnowsUnit new
-      learns_unit v f more = knows (elim learns [
-        | inl p ↦ elim p.1 [ inl w ↦ absurd (false≢true (sym v ∙ w)) | inr w ↦ absurd (false≢true (sym w ∙ f)) ]
-        | inr p ↦ (learnt_counts frames t known steady old r i (placed at end info) e between p.0 p.1 p.2 more).1
+      learns_unit v f more = unit_kept between new last.counts (elim learns [
+        | inl p ↦ absurd (false≢true (sym v ∙ p.0))
+        | inr p ↦ elim p.1 [
+          | inl q ↦ absurd (false≢true (sym q.0 ∙ f))
+          | inr q ↦ (learnt_counts frames t known steady old r i (placed at end info) e between p.0 q.0 q.1 more).1
+        ]
       ])
 
 -- ---- what is told of a frame of a stream

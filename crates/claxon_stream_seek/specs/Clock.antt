@@ -43,6 +43,7 @@ use Rattle.claxon_stream_seek.specs.declared.clock.Counted.TheVariants.{
   Blocks,
   NotKnown,
   Samples,
+  VariableBlocks,
   VaryingBlocks,
 }
 
@@ -59,6 +60,7 @@ CountsRight known frames steady Blocks size =
     IsVariable frames
     ⊎ (IsFixed frames × ((i : ℕ) (x : Placed) → IsFrame frames i x → 0 < i → size ≡ steady.size))
 CountsRight known frames steady VaryingBlocks size = ⊥
+CountsRight known frames steady VariableBlocks size = IsVariable frames
 
 -- Frame i of these was noted last.
 pub record IsLast (frames : List Placed) (i : ℕ) (x : Placed) (s : Clock) : Type 0 where
@@ -76,7 +78,7 @@ pub record IsRightOf (known : Option StreamInfo) (frames : List Placed)
 
 -- The clock knows what numbers count.
 abbrev pub KnowsUnit : Clock → Type 0
-KnowsUnit s = (s.counted ≡ Samples) ⊎ (s.counted ≡ Blocks)
+KnowsUnit s = (s.counted ≡ Samples) ⊎ ((s.counted ≡ Blocks) ⊎ (s.counted ≡ VariableBlocks))
 
 -- It doesn't know it, and no frame has shown that the block size changes.
 abbrev pub NeedsFrames : Clock → Type 0
@@ -143,6 +145,10 @@ module _ (at end : ℕ) (info : BlockInfo) (old new : Clock) where
       × (old.duration ≢ 1) × ((x : Placed) × IsLast frames i x old × (x.end ≡ at)))
       → KnowsUnit new
 
+-- What numbers count is known after a frame whose block size is variable.
+abbrev pub NoteKnowsVariable : BlockInfo → Clock → Type 0
+NoteKnowsVariable info new = info.is_variable ≡ true → KnowsUnit new
+
 -- ---- parts of the code
 
 -- whether a frame at this position is the next one after the last
@@ -158,6 +164,7 @@ time_by_number Samples number size = Some number
 time_by_number Blocks number size =
     if nat_lt (number * size) (2 ^ 64) then Some (number * size) else None
 time_by_number VaryingBlocks number size = None
+time_by_number VariableBlocks number size = None
 
 -- `clock.time(at, &info)`
 abbrev pub clock_time : Clock → ℕ → BlockInfo → Option ℕ
@@ -173,6 +180,7 @@ counted_after NotKnown size duration = Blocks
 counted_after Samples size duration = Blocks
 counted_after Blocks size duration = if size == duration then Blocks else VaryingBlocks
 counted_after VaryingBlocks size duration = VaryingBlocks
+counted_after VariableBlocks size duration = Blocks
 
 -- what is learnt by the number of the frame that follows the last one
 pub record IsLearnt (number : ℕ) (old new : Clock) : Type 0 where
@@ -193,8 +201,9 @@ time_after (Some time) duration =
 -- what is learnt of a frame at this position
 abbrev pub IsLearntBy : ℕ → BlockInfo → Clock → Clock → Type 0
 IsLearntBy at info old new =
-    ((new ≡ old) × ((info.is_variable ≡ true) ⊎ (follows old at info ≡ false)))
-    ⊎ ((info.is_variable ≡ false) × (follows old at info ≡ true) × IsLearnt info.number old new)
+    ((info.is_variable ≡ true) × (new ≡ record old { counted = VariableBlocks }))
+    ⊎ ((info.is_variable ≡ false) × (((follows old at info ≡ false) × (new ≡ old))
+    ⊎ ((follows old at info ≡ true) × IsLearnt info.number old new)))
 
 -- the frame that was noted last, and the sample after it
 pub record HasLast (end : ℕ) (info : BlockInfo) (after : Option ℕ) (old new : Clock) : Type 0 where
@@ -212,3 +221,9 @@ abbrev pub one_block_size : Option StreamInfo → ℕ
 one_block_size None = 0
 one_block_size (Some info) =
     if info.min_block_size == info.max_block_size then info.min_block_size else 0
+
+-- the sample that is shown as the first of a block: as its header says, where the streaminfo has one
+-- block size; else as the clock tells it, if it knows
+abbrev pub shown_time : Clock → Option StreamInfo → ℕ → BlockInfo → ℕ → ℕ
+shown_time s known at info said =
+    if one_block_size known == 0 then unwrap_or (clock_time s at info) said else said

@@ -6,6 +6,7 @@ use Rattle.claxon_stream_seek.specs.declared.clock.Counted.TheVariants.{
   Blocks,
   NotKnown,
   Samples,
+  VariableBlocks,
   VaryingBlocks,
 }
 use Rattle.claxon_stream_seek.specs.declared.clock.kept.KeptClock.{KeptClock}
@@ -22,7 +23,7 @@ use Rattle.claxon_stream_seek.specs.declared.seeker.kept.KeptSeeker.{KeptSeeker}
 abbrev pub kept_counted : ℕ → Counted
 kept_counted n =
     if n == 0 then NotKnown else if n == 1 then Samples else if n == 2 then Blocks
-    else VaryingBlocks
+    else if n == 4 then VariableBlocks else VaryingBlocks
 
 -- the clock that is kept
 abbrev pub kept_clock : KeptClock → Clock

@@ -1,6 +1,11 @@
 //! Where a block begins in time.
 ghost use Rattle.std.specs.Prelude.{◌≡◌, ◌↔◌, IsTrue};
-ghost use Rattle.claxon_stream_seek.specs.Clock.{counted_after, one_block_size, time_after};
+ghost use Rattle.claxon_stream_seek.specs.Clock.{
+  counted_after,
+  one_block_size,
+  shown_time,
+  time_after,
+};
 
 mod kept;
 
@@ -8,7 +13,7 @@ use claxon::frame::BlockInfo;
 use claxon::metadata::StreamInfo;
 pub use kept::KeptClock;
 
-// What the coded numbers of frames with a fixed block size count.
+// What coded numbers count.
 #[derive(Clone, Copy, Debug)]
 enum Counted {
     NotKnown,
@@ -18,6 +23,8 @@ enum Counted {
     Blocks,
     // Frames, whose blocks have more than one size.
     VaryingBlocks,
+    // Samples of each channel, where the bit for a variable block size says so. Nothing is known of other frames.
+    VariableBlocks,
 }
 
 /// At which sample blocks begin, by the frames that were noted.
@@ -52,6 +59,7 @@ impl Clock {
       NoteKeepsOrder,
       NoteKeepsRight,
       NoteKnowsUnit,
+      NoteKnowsVariable,
       StartsRightOf,
       TimeIsExact,
       TimeIsInOrder,
@@ -82,8 +90,8 @@ impl Clock {
         }
     }
 
-    /// Whether it isn't known what the coded numbers count. The first two frames of a stream show it, unless its block size is
-    /// variable.
+    /// Whether it isn't known what the coded numbers count. The first two frames of a stream show it, and one frame where the block
+    /// size is variable.
     pub fn needs_frames(&self) -> bool
         ensures { IsTrue result ↔ NeedsFrames self.now }
     {
@@ -92,6 +100,7 @@ impl Clock {
             Counted::Samples => false,
             Counted::Blocks => false,
             Counted::VaryingBlocks => false,
+            Counted::VariableBlocks => false,
         }
     }
 
@@ -119,6 +128,24 @@ impl Clock {
         self.time_by_number(frame.number)
     }
 
+    /// The sample to show as the first of a frame's block, of which `Block.time` is `said`: that is kept where the streaminfo has
+    /// one block size, or the clock doesn't know better.
+    pub fn shown_time(
+        &self,
+        known: Option<StreamInfo>,
+        at: u64,
+        frame: &BlockInfo,
+        said: u64,
+    ) -> u64
+        ensures is_shown { result ≡ shown_time self.now known at frame.now said }
+    {
+        if one_block_size(known) == 0 {
+            self.time(at, frame).unwrap_or(said)
+        } else {
+            said
+        }
+    }
+
     fn time_by_number(&self, number: u64) -> Option<u64>
         ensures { result ≡ time_by_number self.now.counted number self.now.block_size }
     {
@@ -127,13 +154,16 @@ impl Clock {
             Counted::Blocks => number.checked_mul(u64::from(self.block_size)),
             Counted::NotKnown => None,
             Counted::VaryingBlocks => None,
+            Counted::VariableBlocks => None,
         }
     }
+
     /// Notes a frame that was decoded: from this position of the stream up to the one after its last byte.
     pub fn note(&mut self, at: u64, end: u64, frame: &BlockInfo)
         ensures keeps_right { NoteKeepsRight at end frame.now self.old self.new }
         ensures keeps_order { NoteKeepsOrder at end frame.now self.old self.new }
         ensures knows_unit { NoteKnowsUnit at end frame.now self.old self.new }
+        ensures knows_variable { NoteKnowsVariable frame.now self.new }
     {
         let time = self.time(at, frame);
         let learnt = self.learnt_by(at, frame);
@@ -144,7 +174,13 @@ impl Clock {
     fn learnt_by(self, at: u64, frame: &BlockInfo) -> Clock
         ensures { IsLearntBy at frame.now self result }
     {
-        if frame.is_variable || !self.follows(at, frame) {
+        if frame.is_variable {
+            return Clock {
+                counted: Counted::VariableBlocks,
+                ..self
+            };
+        }
+        if !self.follows(at, frame) {
             return self;
         }
         self.learnt(frame.number)
@@ -202,6 +238,7 @@ fn counted_after(counted: Counted, block_size: u32, duration: u32) -> Counted
         Counted::Blocks if block_size == duration => Counted::Blocks,
         Counted::Blocks => Counted::VaryingBlocks,
         Counted::VaryingBlocks => Counted::VaryingBlocks,
+        Counted::VariableBlocks => Counted::Blocks,
     }
 }
 

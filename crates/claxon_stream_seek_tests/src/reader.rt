@@ -2,7 +2,7 @@
 //! section 9, and is accepted by `flac`.
 mod sources;
 
-use claxon::{Error, Result};
+use claxon::{Block, Error, Result};
 use claxon_seekable::SeekableReader;
 use std::io;
 use std::io::{Cursor, ErrorKind, Read, Seek, SeekFrom};
@@ -110,12 +110,16 @@ fn next_block<R: Read + Seek>(
     flac: &mut SeekableReader<R>,
 ) -> Result<(u64, i32)> {
     match flac.read_next_or_eof(Vec::new(alloc))? {
-        Some(block) => {
-            let value = block.channel(0).first().copied().unwrap_or(99);
-            Ok((block.time(), value))
-        }
+        Some(block) => Ok((block.time(), first_value(&block))),
         None => Ok((99, 99)),
     }
+}
+
+fn first_value(block: &Block) -> i32 {
+    if block.channels() == 0 {
+        return 99;
+    }
+    block.channel(0).first().copied().unwrap_or(99)
 }
 
 // Each sample of each stream, with the block that has it and the next one.

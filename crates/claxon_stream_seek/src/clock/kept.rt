@@ -4,7 +4,7 @@ ghost use Rattle.claxon_stream_seek.specs.Kept.{kept_clock, kept_counted};
 
 use super::{Clock, Counted};
 
-// The numbers of what coded numbers count. Any other says that the block size changes.
+// The numbers of what coded numbers count. Any other says that blocks have more than one size.
 const NOT_KNOWN: u8 = 0;
 
 const SAMPLES: u8 = 1;
@@ -12,6 +12,8 @@ const SAMPLES: u8 = 1;
 const BLOCKS: u8 = 2;
 
 const VARYING_BLOCKS: u8 = 3;
+
+const VARIABLE_BLOCKS: u8 = 4;
 
 /// A `Clock` as C keeps it. In memory it is laid out as the same struct in C.
 #[repr(C)]
@@ -68,6 +70,7 @@ fn counted_by(number: u8) -> Counted
         NOT_KNOWN => Counted::NotKnown,
         SAMPLES => Counted::Samples,
         BLOCKS => Counted::Blocks,
+        VARIABLE_BLOCKS => Counted::VariableBlocks,
         _ => Counted::VaryingBlocks,
     }
 }
@@ -80,5 +83,6 @@ fn numbered(counted: Counted) -> u8
         Counted::Samples => SAMPLES,
         Counted::Blocks => BLOCKS,
         Counted::VaryingBlocks => VARYING_BLOCKS,
+        Counted::VariableBlocks => VARIABLE_BLOCKS,
     }
 }

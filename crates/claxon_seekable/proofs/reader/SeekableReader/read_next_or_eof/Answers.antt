@@ -1,4 +1,5 @@
 use Rattle.std.proofs.lemmas.Result.{err_from_is_err_and}
+use Rattle.claxon_seekable.proofs.Clocks.{frame_is_noted}
 use Rattle.claxon_seekable.proofs.Nexts.{at_end, cut, decoded, failed, faulty}
 use Rattle.claxon_seekable.proofs.reader.SeekableReader.read_next_or_eof.Goals as goal
 
@@ -16,6 +17,10 @@ pub returns-in-Decoded-clause-is_sound : goal.returns-in-Decoded-clause-is_sound
 returns-in-Decoded-clause-is_sound g c =
     let p = decoded g.R.Read.remaining c.args.self.now c.next_event.new.self c.in-Decoded.frame (rw c.in-Decoded.is at c.in_ok-frame.ensures.is) in
     p.is_sound
+
+pub returns-in-Decoded-clause-is_noted : goal.returns-in-Decoded-clause-is_noted
+returns-in-Decoded-clause-is_noted g c =
+    frame_is_noted c.args.self.now c.next_event.new.self g.R.Read.remaining c.in-Decoded.frame (rw c.in-Decoded.is at c.in_ok-frame.ensures.is) (rw c.in-Decoded.is at c.in_ok-frame.ensures.is_noted)
 
 pub returns-in-End-clause-has_sample : goal.returns-in-End-clause-has_sample
 returns-in-End-clause-has_sample g c =

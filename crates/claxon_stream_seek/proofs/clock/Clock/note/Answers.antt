@@ -3,7 +3,7 @@ use Rattle.std.specs.Prelude.{Option}
 use Rattle.claxon.specs.BlockInfos.{BlockInfo}
 use Rattle.claxon_stream_seek.specs.Clock.{HasLast, time_after}
 use Rattle.claxon_stream_seek.specs.declared.clock.Clock.{Clock}
-use Rattle.claxon_stream_seek.proofs.Clocks.{keeps_order, keeps_right, keeps_unit, learns_unit, next_follows}
+use Rattle.claxon_stream_seek.proofs.Clocks.{keeps_order, keeps_right, keeps_unit, knows_variable, learns_unit, next_follows}
 use Rattle.claxon_stream_seek.proofs.clock.Clock.note.Goals as goal
 
 last_of : (end : ℕ) (info : BlockInfo) (o after : Option ℕ) (between new : Clock) → o ≡ after → HasLast end info o between new → HasLast end info after between new
@@ -33,3 +33,6 @@ returns-clause-knows_unit c = λ known frames steady t r i e k.
           learns_unit c.time-time.result c.learnt_by-learnt.ensures last frames t known steady r (i + 1) e pair.0
           (next_follows frames t c.args.self.now i y.0 (record { at = c.args.at; end = c.args.end; info = info }) y.1 pair.1 y.2 e) pair.2)
     ]
+
+pub returns-clause-knows_variable : goal.returns-clause-knows_variable
+returns-clause-knows_variable c = knows_variable c.args.at c.args.frame.now c.args.self.now c.learnt_by-learnt.result c.with_last.result c.learnt_by-learnt.ensures c.with_last.ensures.counts

@@ -1,0 +1,31 @@
+//! A head in memory, made by the definitions of RFC 9639, section 8.
+use claxon::Error;
+use claxon_seek::head_at_start;
+use std::test::Fail;
+
+// The streaminfo, a Vorbis comment, and two bytes more.
+#[rattlefmt::skip]
+const BYTES: [u8; 72] = [
+    0x66, 0x4c, 0x61, 0x43, 0x00, 0x00, 0x00, 0x22, 0x00, 0x10, 0x00, 0x10, 0x00, 0x00, 0x00, 0x00, 0x00, 0x00,
+    0x0a, 0xc4, 0x40, 0x70, 0x00, 0x00, 0x00, 0x80, 0x00, 0x00, 0x00, 0x00, 0x00, 0x00, 0x00, 0x00, 0x00, 0x00,
+    0x00, 0x00, 0x00, 0x00, 0x00, 0x00, 0x84, 0x00, 0x00, 0x18, 0x03, 0x00, 0x00, 0x00, 0x61, 0x62, 0x63, 0x01,
+    0x00, 0x00, 0x00, 0x09, 0x00, 0x00, 0x00, 0x54, 0x49, 0x54, 0x4c, 0x45, 0x3d, 0x6f, 0x6e, 0x65, 0xff, 0xf8,
+];
+
+// The head, and the number of its bytes. One byte less is an error.
+#[test]
+fn head_in_memory(rt: HostRuntime) -> std::result::Result<(), Fail> {
+    let mut taken = 0;
+    let (info, comment) = head_at_start(rt.alloc(), &BYTES, &mut taken)
+        .ok()
+        .ok_or("head")?;
+    assert_eq!(rt; taken, 70);
+    assert_eq!(rt; (info.sample_rate, info.channels), (44_100, 1));
+    assert_eq!(rt; (info.bits_per_sample, info.samples), (8, Some(128)));
+    let comment = comment.ok_or("comment")?;
+    assert_eq!(rt; comment.vendor.as_str(), "abc");
+    assert_eq!(rt; comment.comments.len(), 1);
+    let cut = head_at_start(rt.alloc(), &BYTES[..69], &mut taken);
+    assert!(rt; matches!(cut, Err(Error::IoError(_))));
+    Ok(())
+}
