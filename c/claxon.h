@@ -395,8 +395,13 @@ uint32_t claxon_clock_time(const struct claxon_clock *clock, const struct claxon
 /* Notes a frame that was decoded, after its time was asked for: frames->last, or seeker->found. */
 void claxon_clock_note(struct claxon_clock *clock, const struct claxon_frame *frame);
 
+/* Finds the sample to show as the first of the frame's block, of which *time is block.time: that stays where the streaminfo has
+ * one block size, or the clock doesn't know better. Then the frame is noted. */
+void claxon_clock_show(struct claxon_clock *clock, const struct claxon_info *info, const struct claxon_frame *frame,
+                       uint64_t *time);
+
 /* 1 if the clock doesn't know yet what coded numbers count, else 0. Before a seek the first two frames of the stream are to be
- * noted then. */
+ * noted then, or the first alone where the block size is variable. */
 uint32_t claxon_clock_needs_frames(const struct claxon_clock *clock);
 
 /* Begins a seek to this sample of each channel in a stream of `length` bytes; UINT64_MAX: it isn't known. The first frame is at

@@ -476,15 +476,11 @@ CLAXON_STATIC uint32_t claxon_stream_try_frame(struct claxon_stream *stream) {
         stream->samples, stream->samples_size, &stream->next, stream->error, sizeof stream->error);
 }
 
-/* Passes over the frame that was decoded, and shows its block. Where the streaminfo hasn't one block size the clock tells the
- * time better than the header. */
+/* Passes over the frame that was decoded, and shows its block. */
 CLAXON_STATIC void claxon_stream_show(struct claxon_stream *stream) {
     const struct claxon_frame *frame = &stream->frames.last;
     stream->block = stream->next;
-    if (stream->info.min_block_size != stream->info.max_block_size || stream->info.max_block_size == 0) {
-        claxon_clock_time(&stream->clock, frame, &stream->block.time);
-    }
-    claxon_clock_note(&stream->clock, frame);
+    claxon_clock_show(&stream->clock, &stream->info, frame, &stream->block.time);
     claxon_stream_pass(stream, frame->end - frame->position);
 }
 
@@ -627,10 +623,7 @@ CLAXON_STATIC uint32_t claxon_stream_seek(struct claxon_stream *stream, uint64_t
     }
     status = stream->has_failed ? claxon_stream_go_to(stream, stream->info.first_frame) : (uint32_t)CLAXON_OK;
     /* The clock may need the first two frames. */
-    for (i = 0; status == CLAXON_OK && i < 2; i++) {
-        if (!claxon_clock_needs_frames(&stream->clock) || stream->frames.last.is_variable) {
-            break;
-        }
+    for (i = 0; status == CLAXON_OK && i < 2 && claxon_clock_needs_frames(&stream->clock); i++) {
         status = i == 0 ? claxon_stream_go_to(stream, stream->info.first_frame) : (uint32_t)CLAXON_OK;
         status = status == CLAXON_OK ? claxon_stream_next(stream, stream->is_planar) : status;
     }

@@ -499,6 +499,20 @@ static int test_search(const struct kind *kind, struct bytes *source, double mos
     return test_stream_seek(kind->name, source, last, most) && is_found;
 }
 
+/* Headers whose last code runs through all zeros, in shorter streams: the time is linear, but for what any search takes.
+ * Returns whether they end in their parts of so many seconds. */
+static int test_shorter(struct bytes *source, double most) {
+    static const struct kind kind = {"fewer headers whose last code runs through all zeros", long_codes, 1, SIZE_MAX, 0};
+    const size_t whole = source->length;
+    int is_found = 1;
+    for (size_t length = MEGABYTE; length <= 10 * MEGABYTE; length *= 10) {
+        source->length = length;
+        is_found &= test_search(&kind, source, most * (0.05 + (double)length / (double)whole));
+    }
+    source->length = whole;
+    return is_found;
+}
+
 int main(int argc, char **argv) {
     size_t length = argc == 3 ? strtoul(argv[1], NULL, 10) * MEGABYTE : 0;
     struct bytes source = {NULL, 0, 0, 0};
@@ -513,6 +527,7 @@ int main(int argc, char **argv) {
     for (size_t i = 0; i < sizeof searched / sizeof *searched; i++) {
         failures += !test_search(&searched[i], &source, strtod(argv[2], NULL));
     }
+    failures += !test_shorter(&source, strtod(argv[2], NULL));
     printf("hostile: %zu streams of %s megabytes, %d failures\n", sizeof kinds / sizeof *kinds, argv[1], failures);
     free(source.start);
     return failures != 0;

@@ -92,7 +92,7 @@ static const struct row rows[] = {
 
 /* Decodes all frames, and compares their times. Returns the clock after the first two. */
 static struct claxon_clock walk(const struct row *row, const uint8_t *bytes, size_t length, const struct claxon_info *info) {
-    struct claxon_clock clock, first_two;
+    struct claxon_clock clock, showing, first_two;
     struct claxon_frames frames;
     struct claxon_block block;
     char error[1];
@@ -102,7 +102,7 @@ static struct claxon_clock walk(const struct row *row, const uint8_t *bytes, siz
     expect(claxon_clock_needs_frames(&clock) == (row->least != row->most), "a clock", "whether it needs frames");
     claxon_frames_start(&frames, 0);
     for (i = 0; i < 4; i++) {
-        uint64_t time = 99;
+        uint64_t time = 99, shown = 98;
         expect(claxon_frames_next(&frames, bytes, length, 0, 1, info, samples, 64, &block, error, 0) == CLAXON_OK, "a clock",
                "a frame");
         expect(frames.last.position == 12 * i && frames.last.end == 12 * i + 12 && frames.last.duration == row->counts[i] &&
@@ -110,10 +110,15 @@ static struct claxon_clock walk(const struct row *row, const uint8_t *bytes, siz
                    frames.last.is_variable == (row->numbers == SAMPLES),
                "a clock", "what is shown of a frame");
         expect(claxon_clock_time(&clock, &frames.last, &time) == 1 && time == row->times[i], "a clock", "a time");
+        showing = clock;
+        claxon_clock_show(&showing, info, &frames.last, &shown);
+        expect(shown == (row->least == row->most ? 98 : row->times[i]), "a clock", "a time that is shown");
         claxon_clock_note(&clock, &frames.last);
+        expect(memcmp(&showing, &clock, sizeof clock) == 0, "a clock", "that a frame is noted once it is shown");
+        expect(row->numbers != SAMPLES || !claxon_clock_needs_frames(&clock), "a clock", "what it knows of a variable size");
         first_two = i == 1 ? clock : first_two;
     }
-    expect(row->numbers == SAMPLES || !claxon_clock_needs_frames(&first_two), "a clock", "what it knows after two frames");
+    expect(!claxon_clock_needs_frames(&first_two), "a clock", "what it knows after two frames");
     return first_two;
 }
 

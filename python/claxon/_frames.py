@@ -135,19 +135,15 @@ class Frames:
         return self._clock
 
     def _note(self, frame: _calls.Frame) -> None:
-        """Notes the frame that was decoded. Where the streaminfo hasn't one block size, the clock
-        tells the time of its block better than the header.
+        """Notes the frame that was decoded, and corrects the time of its block, if the clock knows
+        better.
         """
-        clock, time, info = self.clock(), ctypes.c_uint64(self.found.time), self.info
-        library.claxon_clock_time(clock, frame, time)
-        library.claxon_clock_note(clock, frame)
-        if info.min_block_size != info.max_block_size or not info.max_block_size:
-            self.found.time = time.value
+        time = ctypes.c_uint64(self.found.time)
+        library.claxon_clock_show(self.clock(), self.info, frame, time)
+        self.found.time = time.value
 
     def knows_time(self) -> bool:
-        """Whether the clock tells where any block begins, or each header says it."""
-        if self._next.last.is_variable:
-            return True
+        """Whether the clock tells where any block begins."""
         return not library.claxon_clock_needs_frames(self.clock())
 
     def seek(self, seeker: _calls.Seeker) -> int:

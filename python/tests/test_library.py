@@ -14,7 +14,7 @@ from tests import FolderCase, copy_module
 CALLS = ["open", "head_start", "head_next", "vendor", "next_tag"]
 CALLS += ["frames_start", "frames_go_on", "frames_next", "frames_next_planar"]
 CALLS += ["search_start", "search_go_on", "search_next"]
-CALLS += ["clock_start", "clock_time", "clock_note", "clock_needs_frames"]
+CALLS += ["clock_start", "clock_show", "clock_needs_frames"]
 CALLS += ["seeker_start", "seeker_next_planar"]
 CALLS += ["md5_start", "md5_samples", "md5_finish"]
 

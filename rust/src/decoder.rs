@@ -231,12 +231,9 @@ impl Decoder {
         }
     }
 
-    // The block of the last frame. Where the streaminfo hasn't one block size the clock tells its time better than the header.
+    // The block of the last frame.
     fn shown(&mut self, mut block: ffi::Block, buffer: &mut Vec<i32>) -> Event {
-        let time = self.clock.pass(&self.frames.last, block.time);
-        if self.info.min_block_size != self.info.max_block_size || self.info.max_block_size == 0 {
-            block.time = time;
-        }
+        self.clock.show(&self.info, &self.frames.last, &mut block);
         self.usual = block.samples();
         Event::Block(Block::new(block, mem::take(buffer)))
     }
@@ -271,7 +268,7 @@ impl Decoder {
             return Ok(event);
         }
         while let Some(mut seek) = self.seek.filter(|seek| seek.seeker.is_none()) {
-            if seek.first_frames == 0 || !self.clock.needs_frames() || self.frames.last.is_variable == 1 {
+            if seek.first_frames == 0 || !self.clock.needs_frames() {
                 let info = Info { first_frame: self.first_frame as usize, ..self.info };
                 seek.seeker = Some(Seeker::start(&info, seek.length, seek.sample, &self.clock));
             } else {

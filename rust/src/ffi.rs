@@ -257,8 +257,7 @@ extern "C" {
         block: *mut Block,
     ) -> u32;
     fn claxon_clock_start(clock: *mut Clock, info: *const Info);
-    fn claxon_clock_time(clock: *const Clock, frame: *const Frame, time: *mut u64) -> u32;
-    fn claxon_clock_note(clock: *mut Clock, frame: *const Frame);
+    fn claxon_clock_show(clock: *mut Clock, info: *const Info, frame: *const Frame, time: *mut u64);
     fn claxon_clock_needs_frames(clock: *const Clock) -> u32;
     fn claxon_seeker_start(seeker: *mut Seeker, info: *const Info, length: u64, sample: u64, clock: *const Clock);
     fn claxon_seeker_next_planar(
@@ -574,19 +573,13 @@ impl Clock {
         clock
     }
 
-    /// Notes a frame that was decoded, and returns the sample at which its block begins, or this one where the clock
-    /// doesn't know it.
-    pub fn pass(&mut self, frame: &Frame, otherwise: u64) -> u64 {
-        let mut time = otherwise;
+    /// Notes a frame that was decoded, and corrects the sample at which its block begins, if the clock knows better.
+    pub fn show(&mut self, info: &Info, frame: &Frame, block: &mut Block) {
         // SAFETY: as the module says.
-        unsafe {
-            claxon_clock_time(self, frame, &mut time);
-            claxon_clock_note(self, frame);
-        }
-        time
+        unsafe { claxon_clock_show(self, info, frame, &mut block.time) }
     }
 
-    /// Whether the first two frames have to be noted before a seek.
+    /// Whether the first frames have to be noted before a seek, at most two.
     pub fn needs_frames(&self) -> bool {
         // SAFETY: as the module says.
         unsafe { claxon_clock_needs_frames(self) == 1 }

@@ -138,20 +138,19 @@ class Held:
 
 
 class Times:
-    """The times of blocks, which are those of the clock where the streaminfo hasn't one size."""
+    """The times of blocks that are shown."""
 
     def __init__(self, info: _calls.Info) -> None:
-        self._has_one_size = 0 < info.min_block_size == info.max_block_size
+        self._info = info
         self.clock = _calls.Clock()
         library.claxon_clock_start(self.clock, info)
 
     def note(self, frame: _calls.Frame) -> Event:
         """The event of a block that was decoded."""
         time = ctypes.c_uint64(BUFFERS.block.time)
-        library.claxon_clock_time(self.clock, frame, time)
-        library.claxon_clock_note(self.clock, frame)
+        library.claxon_clock_show(self.clock, self._info, frame, time)
         event = BUFFERS.event()
-        return event if self._has_one_size else (event[0], time.value, *event[2:])
+        return event[0], time.value, *event[2:]
 
 
 def by_calls(data: bytes, pieces: Pieces, info: _calls.Info) -> Tuple[Events, Events, bool]:
@@ -210,8 +209,7 @@ class Seeks:
         frames, memory = self._frames, self._data
         library.claxon_frames_go_on(frames, self._info.first_frame)
         for _ in range(2):
-            needs_frames = library.claxon_clock_needs_frames(self._times.clock)
-            if frames.last.is_variable or not needs_frames:
+            if not library.claxon_clock_needs_frames(self._times.clock):
                 break
             arguments = [self._info, *BUFFERS.arguments()]
             if library.claxon_frames_next_planar(frames, memory, len(memory), 0, 1, *arguments):

@@ -5,14 +5,18 @@ use Rattle.claxon_stream_seek.specs.Clock.{
   NoteKeepsOrder,
   NoteKeepsRight,
   NoteKnowsUnit,
+  NoteKnowsVariable,
   TimeIsExact,
   TimeIsInOrder,
   TimeIsKnown,
+  shown_time,
 }
 use Rattle.claxon_stream_seek.specs.declared.clock.Clock.{Clock}
 use Rattle.claxon_c.specs.ShownFrame.{said_of}
 use Rattle.claxon_c.specs.declared.frame.ClaxonFrame.{ClaxonFrame}
+use Rattle.claxon_c.specs.declared.heads.ClaxonInfo.{ClaxonInfo}
 use Rattle.claxon_c.specs.HeldBytes.{says_yes}
+use Rattle.claxon_c.specs.Info.{known_info}
 
 -- the time that is told, if one is
 abbrev pub told : ℕ → ℕ → Option ℕ
@@ -47,6 +51,15 @@ module _ (frame : ClaxonFrame) (old new : Clock) where
   -- What numbers count is known after two frames that follow one another, and stays known.
   abbrev pub CNoteKnowsUnit : Type 0
   CNoteKnowsUnit = NoteKnowsUnit frame.position frame.end (said_of frame) old new
+
+-- What numbers count is known after a frame whose block size is variable.
+abbrev pub CNoteKnowsVariable : ClaxonFrame → Clock → Type 0
+CNoteKnowsVariable frame new = NoteKnowsVariable (said_of frame) new
+
+-- The time of the header is kept, or that of the clock is told.
+abbrev pub CTimeIsShown : ClaxonInfo → Clock → ClaxonFrame → ℕ → ℕ → Type 0
+CTimeIsShown info clock frame old new =
+    new ≡ shown_time clock (known_info info) frame.position (said_of frame) old
 
 -- 1 exactly where the clock doesn't know what numbers count, else 0
 pub record CNeedsFrames (clock : Clock) (result : ℕ) : Type 0 where

@@ -6,10 +6,12 @@ ghost use Rattle.claxon_c.specs.Clock.{
   CNoteKeepsOrder,
   CNoteKeepsRight,
   CNoteKnowsUnit,
+  CNoteKnowsVariable,
   CTimeIsExact,
   CTimeIsInOrder,
   CTimeIsKept,
   CTimeIsKnown,
+  CTimeIsShown,
 };
 ghost use Rattle.claxon_c.specs.Info.{known_info};
 
@@ -54,11 +56,36 @@ pub extern "C" fn claxon_clock_note(clock: &mut KeptClock, frame: &ClaxonFrame)
         (kept_clock clock.new) }
     ensures knows_unit { CNoteKnowsUnit frame.now (kept_clock clock.old)
         (kept_clock clock.new) }
+    ensures knows_variable { CNoteKnowsVariable frame.now (kept_clock clock.new) }
 {
     let mut told = clock.clock();
     let said = frame.said();
     told.note(frame.position, frame.end, &said);
     *clock = KeptClock::new(told);
+}
+
+/// Finds the sample to show as the first of the frame's block, whose header says that it is `time`: that stays where the streaminfo
+/// has one block size, or the clock doesn't know better. Then the frame is noted.
+#[unsafe(no_mangle)]
+pub extern "C" fn claxon_clock_show(
+    clock: &mut KeptClock,
+    info: &ClaxonInfo,
+    frame: &ClaxonFrame,
+    time: &mut u64,
+)
+    ensures is_shown { CTimeIsShown info.now (kept_clock clock.old) frame.now time.old time.new }
+    ensures keeps_right { CNoteKeepsRight frame.now (kept_clock clock.old)
+        (kept_clock clock.new) }
+    ensures keeps_order { CNoteKeepsOrder frame.now (kept_clock clock.old)
+        (kept_clock clock.new) }
+    ensures knows_unit { CNoteKnowsUnit frame.now (kept_clock clock.old)
+        (kept_clock clock.new) }
+    ensures knows_variable { CNoteKnowsVariable frame.now (kept_clock clock.new) }
+{
+    let told = clock.clock();
+    let said = frame.said();
+    *time = told.shown_time(info.known_stream(), frame.position, &said, *time);
+    claxon_clock_note(clock, frame);
 }
 
 /// Whether it isn't known what the coded numbers count. 1 if so, else 0.
