@@ -62,12 +62,12 @@ fn an_argument_that_is_not_utf8(rt: HostRuntime) -> Result<(), Fail> {
         (
             &["wav", "\0\\xff"],
             "claxon wav",
-            "claxon wav [-f] [--no-md5] FILE [OUT.wav]\n",
+            "claxon wav [-f] [--no-md5] [--through-damage | --skip-damage] FILE [OUT.wav]\n",
         ),
         (
             &["wav", "-", "\0\\xff"],
             "claxon wav",
-            "claxon wav [-f] [--no-md5] FILE [OUT.wav]\n",
+            "claxon wav [-f] [--no-md5] [--through-damage | --skip-damage] FILE [OUT.wav]\n",
         ),
         (
             &["trace", "\0\\xff"],

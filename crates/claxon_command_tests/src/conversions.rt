@@ -468,10 +468,11 @@ fn with_header(alloc: Global, front: &[u8], fourth: u8) -> result::Result<Vec<u8
     Ok(joined(alloc, &[front, &[0xff, 0xf8, 0x69, fourth, 0x00]])?)
 }
 
-const USAGE: &str = "usage: claxon wav [-f] [--no-md5] FILE [OUT.wav]\n";
+const USAGE: &str =
+    "usage: claxon wav [-f] [--no-md5] [--through-damage | --skip-damage] FILE [OUT.wav]\n";
 
 const UNKNOWN_OPTION: &str =
-    "claxon wav: unknown option -x\nusage: claxon wav [-f] [--no-md5] FILE [OUT.wav]\n";
+    "claxon wav: unknown option -x\nusage: claxon wav [-f] [--no-md5] [--through-damage | --skip-damage] FILE [OUT.wav]\n";
 
 const DEEP: &str = "standard input: 32-bit samples are not supported\n";
 

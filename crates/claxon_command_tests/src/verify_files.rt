@@ -110,10 +110,23 @@ fn has_status(rt: &HostRuntime, folder: &str, kinds: [Kind; 3], status: u8) -> R
     Ok(line_count(&named, status) == Some(3) && listed == named && found == named)
 }
 
+// Whether a folder without files isn't passed over in silence.
+fn tells_no_files(rt: &HostRuntime, folder: &str) -> Result<bool, Fail> {
+    let words = owned(rt.alloc(), &["-r", "--json", folder])?;
+    let line = format!(in rt.alloc();
+        "{{\"name\":\"{folder}\",\"verdict\":\"not read\",\"reason\":\"no FLAC files\"}}\n"
+    )?;
+    Ok(match said(rt, &words, b"") {
+        Some((1, output)) => output.as_slice() == line.as_bytes(),
+        _ => false,
+    })
+}
+
 #[test]
 fn worst_status(rt: HostRuntime) -> Result<(), Fail> {
     let folder = path_of(&rt, "verify_files")?;
     fs::create_dir(&rt, folder.as_str())?;
+    assert!(rt; tells_no_files(&rt, folder.as_str())?);
     for (kinds, status) in ROWS {
         assert!(rt;
             has_status(&rt, folder.as_str(), kinds, status)?,

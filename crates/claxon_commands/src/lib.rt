@@ -1,6 +1,8 @@
 //! The program `claxon`: its commands, and which of them the arguments ask for.
 #![tactic(auto)]
 
+mod counted;
+mod rescue;
 pub mod verify;
 pub mod wav;
 

@@ -4,29 +4,36 @@ ghost use Rattle.claxon.specs.FlacReader.{flac_metadata_only};
 ghost use Rattle.claxon_commands.specs.WavStatus.{status_after};
 ghost use Rattle.claxon_wav.specs.Conversion.{ConversionIsSound};
 
+use crate::counted::CountedReader;
+use crate::rescue::rescue_status;
 use claxon::FlacReader;
+use claxon::input::ReadBytes;
 use claxon::metadata::StreamInfo;
 use claxon_command_line::arguments::{Argument, Arguments, Notice};
-use claxon_command_line::input::{STANDARD, open_input};
+use claxon_command_line::input::{Input, STANDARD, open_input};
 use claxon_command_line::messages::{Part, print_error, print_message};
 use claxon_command_line::names::not_utf8_name;
 use claxon_command_line::progress::Progress;
 use claxon_command_line::text::count_text;
 use claxon_program::Program;
+use claxon_recovery::Parts;
+use claxon_rescue::{RescueOptions, Rescued, rescue_file};
 use claxon_verdict::text::frame_text;
 use claxon_wav::{Conversion, Error, Mismatch, Plan, Result, write_file, write_stream};
 use std::alloc::{AllocError, Global};
+use std::cell::Cell;
 use std::fs::OpenFile;
-use std::io::{Read, Write};
+use std::io::{self, ErrorKind, Read, Write};
 use std::os::unix::fs::MetadataExt;
 use std::path::Path;
+use std::rc::Rc;
 use std::rt::Files;
 use std::{fs, result};
 
 /// What the command says about itself.
 pub const PROGRAM: Program = Program {
     name: "claxon wav",
-    arguments: "[-f] [--no-md5] FILE [OUT.wav]",
+    arguments: "[-f] [--no-md5] [--through-damage | --skip-damage] FILE [OUT.wav]",
     commands: &[],
     help: "Converts a FLAC file to a WAV file.
 
@@ -35,6 +42,11 @@ pub const PROGRAM: Program = Program {
              extension, or standard output for standard input
   -f         replaces OUT.wav if it exists
   --no-md5   doesn't compute the MD5 sum, which takes less time
+  --through-damage
+             goes on after damage: writes the samples of each whole frame at
+             their time, and silence where samples are missing
+  --skip-damage
+             the same, with nothing in place of samples that are missing
   --         ends the options
   -h, --help shows this text
   -V, --version
@@ -42,10 +54,12 @@ pub const PROGRAM: Program = Program {
 
 Samples before a fault are written too. Another number of samples than in the
 streaminfo is a fault, and so is another MD5 sum, if the streaminfo has one. All
-samples are written then.
+samples are written then. With --through-damage or --skip-damage, whose output
+is a file, there is a line for each range of samples that aren't written, and
+one of how many are missing in all.
 
-Status: 0 if there was no fault, 1 if there was one, 2 if the arguments are
-wrong.
+Status: 0 if there was no fault, 1 if there was one, or samples weren't written,
+2 if the arguments are wrong.
 ",
 };
 
@@ -78,6 +92,8 @@ struct WavRequest<'a> {
     // The output may exist.
     replaces: bool,
     computes_md5: bool,
+    // Whether it goes on after damage, and if so, whether it writes silence where samples are missing.
+    fills_gaps: Option<bool>,
     shows_progress: bool,
 }
 
@@ -87,11 +103,14 @@ fn parse<'a>(
 ) -> result::Result<WavRequest<'a>, Notice<'a>> {
     let mut arguments = Arguments::new(words);
     let (mut from, mut to) = (None, None);
-    let (mut replaces, mut computes_md5) = (false, true);
+    let (mut replaces, mut computes_md5, mut fills_gaps) = (false, true, None);
     while let Some(argument) = arguments.next() {
         match argument {
             Argument::Option("-f") => replaces = true,
             Argument::Option("--no-md5") => computes_md5 = false,
+            Argument::Option("--through-damage") if fills_gaps.is_none() => fills_gaps = Some(true),
+            Argument::Option("--skip-damage") if fills_gaps.is_none() => fills_gaps = Some(false),
+            Argument::Option("--through-damage" | "--skip-damage") => return Err(Notice::Usage),
             Argument::Option(option) => return Err(Notice::of_option(option)),
             Argument::Operand(name) if not_utf8_name(name).is_some() => return Err(Notice::NotUtf8),
             Argument::Operand(name) if from.is_none() => from = Some(name),
@@ -105,6 +124,7 @@ fn parse<'a>(
             to,
             replaces,
             computes_md5,
+            fills_gaps,
             shows_progress,
         }),
         None => Err(Notice::Usage),
@@ -120,7 +140,10 @@ fn convert_request<Q: Files + AllocGlobal, I: Read + Copy, W: Write + Drop, E: W
     errors: &mut E,
 ) -> u8 {
     match output_name(rt.alloc(), request) {
-        Ok(to) => convert_file(rt, request, to.as_str(), input, output, errors),
+        Ok(to) => match request.fills_gaps {
+            Some(fills_gaps) => rescue(rt, request, to.as_str(), fills_gaps, input, errors),
+            None => convert_file(rt, request, to.as_str(), input, output, errors),
+        },
         Err(error) => {
             let error = claxon::Error::from(error);
             print_error(rt.alloc(), request.from, Part::Head, &error, errors);
@@ -142,6 +165,15 @@ fn output_name(alloc: Global, request: WavRequest<'_>) -> result::Result<String,
     }
 }
 
+// How a line of progress begins, if there is one.
+fn progress_label<'a>(request: WavRequest<'_>) -> Option<&'a str> {
+    if request.shows_progress {
+        Some("")
+    } else {
+        None
+    }
+}
+
 // The output is created after the head is read, so that a fault there leaves an existing file as it is.
 fn convert_file<Q: Files + AllocGlobal, I: Read + Copy, W: Write + Drop, E: Write>(
     rt: &Q,
@@ -158,12 +190,7 @@ fn convert_file<Q: Files + AllocGlobal, I: Read + Copy, W: Write + Drop, E: Writ
     match opened {
         Ok(mut flac) => {
             let info = flac.streaminfo();
-            let label = if request.shows_progress {
-                Some("")
-            } else {
-                None
-            };
-            let mut progress = Progress::new(errors, label);
+            let mut progress = Progress::new(errors, progress_label(request));
             progress.start(info.samples);
             let outcome = write_wav(rt, request, to, &mut flac, output, &mut progress);
             progress.end();
@@ -174,6 +201,85 @@ fn convert_file<Q: Files + AllocGlobal, I: Read + Copy, W: Write + Drop, E: Writ
             1
         }
     }
+}
+
+// Writes what is whole of a damaged file, as `convert_file` does of one that isn't.
+fn rescue<Q: Files + AllocGlobal, I: Read + Copy, E: Write>(
+    rt: &Q,
+    request: WavRequest<'_>,
+    to: &str,
+    fills_gaps: bool,
+    input: I,
+    errors: &mut E,
+) -> u8 {
+    match open_counted(rt, request.from, input) {
+        Ok((mut flac, start)) => {
+            let options = RescueOptions {
+                start,
+                fills_gaps,
+                max_ranges: MAX_RANGES,
+            };
+            let info = flac.streaminfo();
+            let mut progress = Progress::new(errors, progress_label(request));
+            progress.start(info.samples);
+            let outcome = write_rescued(rt, request, to, &mut flac, options, &mut progress);
+            progress.end();
+            rescue_status(rt.alloc(), request.from, to, &info, outcome, errors)
+        }
+        Err(error) => {
+            print_error(rt.alloc(), request.from, Part::Head, &error, errors);
+            1
+        }
+    }
+}
+
+// Opens a file, and tells the position of the first byte after its head.
+fn open_counted<Q: Files + AllocGlobal, I: Read + Copy>(
+    rt: &Q,
+    name: &str,
+    input: I,
+) -> claxon::Result<(FlacReader<CountedReader<Input<Q::File, I>>>, u64)> {
+    let count = Rc::new(rt.alloc(), Cell::new(0))?;
+    let reader = match open_input(rt, name, input) {
+        Ok(input) => CountedReader::new(input, count.clone()?),
+        Err(error) => return Err(claxon::Error::IoError(error)),
+    };
+    let mut flac = FlacReader::new(rt.alloc(), reader)?;
+    let buffered = flac.input().buffered().len() as u64;
+    Ok((flac, count.get().wrapping_sub(buffered)))
+}
+
+// How many ranges of samples that aren't written have a line.
+const MAX_RANGES: usize = 1000;
+
+// Writes the WAV file of a damaged one. Its header may have to be corrected, so it has to be a file.
+fn write_rescued<Q: Files + AllocGlobal, R: Read + Drop, E: Write>(
+    rt: &Q,
+    request: WavRequest<'_>,
+    to: &str,
+    flac: &mut FlacReader<R>,
+    options: RescueOptions,
+    progress: &mut Progress<'_, '_, E>,
+) -> Result<Rescued> {
+    let plan = Plan::of_stream(flac, request.computes_md5)?;
+    let info = flac.streaminfo();
+    if to == STANDARD {
+        return Err(Error::from(io::Error::from(ErrorKind::NotSeekable)));
+    }
+    let mut file = create(rt, request, to)?;
+    if !is_regular(&file) {
+        return Err(Error::from(io::Error::from(ErrorKind::NotSeekable)));
+    }
+    let mut parts = Parts::new(rt.alloc(), flac.input(), info, options.start)?;
+    rescue_file(
+        rt.alloc(),
+        &mut parts,
+        info,
+        &mut file,
+        plan,
+        options,
+        progress,
+    )
 }
 
 // Writes the WAV file.
@@ -223,7 +329,7 @@ fn samples_text(alloc: Global, known: u64, found: u32) -> result::Result<String,
 }
 
 // Prints what went wrong, and returns the exit status.
-fn conversion_status<E: Write>(
+pub(crate) fn conversion_status<E: Write>(
     alloc: Global,
     from: &str,
     to: &str,

@@ -8,6 +8,7 @@ use Rattle.claxon_wav.specs.Convert.{PutsSamples}
 use Rattle.claxon_rescue.specs.Losses.{missing_in, missing_of}
 use Rattle.claxon_rescue.specs.PutSteps.{HashesGiven, IsFileOf, NotesRanges, PutsGap, StopsWriting}
 use Rattle.claxon_rescue.specs.Rescue.{gap_blocks, gap_ranges, missing_range, silent_block}
+use Rattle.claxon_rescue.specs.Waiting.{waiting_frames}
 use Rattle.claxon_wav.specs.Writer.{ExplainsSilenceError, PutsSilence, SameHeader, SilenceErrorKeeps, Unflushed}
 use Rattle.claxon_wav.specs.declared.error.Error.{Error}
 use Rattle.claxon_wav.specs.declared.error.Error.TheVariants.{Claxon, Exists, OtherChannels, Output, SameFile, TooLong, Unsupported32Bit, WideSample}
@@ -58,16 +59,18 @@ module _ {W : Type 0} {contents : W → Option (List ℕ)} where
       let ranges = none_ranges rules rescue.due sample byte late in
       record {
         same_due = refl;
+        same_waiting = refl;
         puts = subst (λ (l : List Block). PutsSamples contents l file file) (sym blocks) (puts_none file);
         notes = subst (λ (l : List LostRange). NotesRanges l rescue.losses rescue.losses) (sym ranges) (notes_none rescue.losses);
         hashes = subst (λ (l : List LostRange). HashesGiven rules.info.bits_per_sample l (gap_blocks rules rescue.due sample) rescue.md5 rescue.md5) (sym ranges) (subst (λ (l : List Block). HashesGiven rules.info.bits_per_sample [] l rescue.md5 rescue.md5) (sym blocks) (given_none rescue.md5));
       }
 
   -- some are, and were noted
-  pub gap_noted : (rules : Rules) (old new : Rescue) (before after : WavWriter W) (sample byte : ℕ) → old.due.sample < sample → new.due ≡ old.due → new.md5 ≡ None → NotesRanges (missing_range old.due sample byte ∷ []) old.losses new.losses → PutsSamples contents (gap_blocks rules old.due sample) before after
+  pub gap_noted : (rules : Rules) (old new : Rescue) (before after : WavWriter W) (sample byte : ℕ) → old.due.sample < sample → new.due ≡ old.due → waiting_frames new.waiting ≡ waiting_frames old.waiting → new.md5 ≡ None → NotesRanges (missing_range old.due sample byte ∷ []) old.losses new.losses → PutsSamples contents (gap_blocks rules old.due sample) before after
       → PutsGap contents rules old new before after sample byte
-  gap_noted rules old new before after sample byte more due md5 notes puts = record {
+  gap_noted rules old new before after sample byte more due waiting md5 notes puts = record {
     same_due = due;
+    same_waiting = waiting;
     puts = puts;
     notes = subst (λ (l : List LostRange). NotesRanges l old.losses new.losses) (sym (some_ranges rules old.due sample byte more)) notes;
     hashes = given_torn (some_missing rules old.due sample byte more) md5;

@@ -6,6 +6,8 @@ pub mod Rescuing
 pub mod Gaps
 -- Frames that are written at their times, and those that are not.
 pub mod Placed
+-- Frames that waited, and what they give.
+pub mod Waited
 -- What the parts of a damaged stream give, one after another.
 pub mod RescuedParts
 -- Files of damaged streams, finished.

@@ -7,7 +7,6 @@ use Rattle.std.proofs.lemmas.List.Elements.{All-append, All-cons, All-head, All-
 use Rattle.std.proofs.lemmas.Nat.{pow_pos}
 use Rattle.claxon.specs.Bits.{FitsIn}
 use Rattle.claxon.specs.Block.{BlockValue}
-use Rattle.claxon.specs.DecodedFrame.{decoded_view}
 use Rattle.claxon.specs.FrameReader.{block_view}
 use Rattle.claxon.specs.StreamInfos.{StreamInfo}
 use Rattle.claxon.specs.Streams.{duration_of, interleave, samples_at}
@@ -18,8 +17,9 @@ use Rattle.claxon_wav.specs.Convert.{PutsSamples}
 use Rattle.std.proofs.lemmas.List.Sums.{sum_by-cons}
 use Rattle.claxon_rescue.specs.Losses.{NotesRange, missing_in, missing_of}
 use Rattle.claxon_rescue.specs.PutSteps.{HashesGiven, IsFileOf, NotesRanges, PutsFrame, PutsGap, StopsAtFrame, StopsWriting}
-use Rattle.claxon_rescue.specs.Rescue.{GivesFrame, IsOfStream, gap_blocks, gap_ranges}
-use Rattle.claxon_rescue.specs.Times.{IsGapBefore, IsInOrder, due_after, left_out}
+use Rattle.claxon_rescue.specs.Rescue.{GivesFrame, gap_blocks, gap_ranges}
+use Rattle.claxon_rescue.specs.Times.{IsGapAmong, IsKept, due_after, left_out}
+use Rattle.claxon_rescue.specs.Waiting.{waiting_frames}
 use Rattle.claxon_wav.specs.DataSize.{max_data_size}
 use Rattle.claxon_wav.specs.Samples.{packed_samples}
 use Rattle.claxon_wav.specs.WavError.{IsMemory}
@@ -42,35 +42,24 @@ given_left_out rules due there x =
     record { whole = λ e. no_block_hashed rules.info.bits_per_sample x; torn = λ some. absurd (omega (arith, some, none)) }
 
 module _ {W : Type 0} (contents : W → Option (List ℕ)) (rules : Rules) (there : FrameThere) (old : Rescue) where
-  -- a frame of another stream
-  pub other_frame : (file : WavWriter W) → (IsOfStream rules.info there.frame → ⊥) → PutsFrame contents rules old old file file there
-  other_frame file other = record {
-    blocks = [];
-    lost = [];
-    gives = inr (record { none = refl; same = refl }, inr (other, refl));
-    puts = puts_none file;
-    notes = notes_none old.losses;
-    hashes = given_none old.md5;
-  }
-
-  -- one that isn't in order
-  pub frame_left_out : (new : Rescue) (file : WavWriter W) → IsOfStream rules.info there.frame → (IsInOrder rules old.due (decoded_view there.frame) → ⊥) → new.due ≡ old.due → new.md5 ≡ old.md5 → NotesRange (left_out rules old.due there) old.losses new.losses → PutsFrame contents rules old new file file there
-  frame_left_out new file stream order due md5 notes = record {
+  -- one that isn't kept
+  pub frame_left_out : (new : Rescue) (file : WavWriter W) → (IsKept rules old.due there (waiting_frames old.waiting) → ⊥) → new.due ≡ old.due → waiting_frames new.waiting ≡ waiting_frames old.waiting → new.md5 ≡ old.md5 → NotesRange (left_out rules old.due there) old.losses new.losses → PutsFrame contents rules old new file file there
+  frame_left_out new file other due waiting md5 notes = record {
     blocks = [];
     lost = left_out rules old.due there ∷ [];
-    gives = inr (record { none = refl; same = due }, inl (record { of_stream = stream; not_in_order = order; lost_is = refl }));
+    gives = inr (record { none = refl; same = due }, record { not_kept = other; lost_is = refl });
+    same_waiting = waiting;
     puts = puts_none file;
     notes = notes;
     hashes = subst (λ (m : Option Md5). HashesGiven rules.info.bits_per_sample (left_out rules old.due there ∷ []) [] old.md5 m) (sym md5) (given_left_out rules old.due there old.md5);
   }
 
-module _ {W : Type 0} (contents : W → Option (List ℕ)) (rules : Rules) (there : FrameThere) (gap : ℕ) (due : Due) (stream : IsOfStream rules.info there.frame) (at : IsGapBefore rules due (decoded_view there.frame) (Some gap)) where
+module _ {W : Type 0} (contents : W → Option (List ℕ)) (rules : Rules) (there : FrameThere) (gap : ℕ) (due : Due) (ahead : List FrameThere) (at : IsGapAmong rules due there ahead (Some gap)) where
   -- what it gives
-  given : GivesFrame rules due there (gap_blocks rules due (due.sample + gap) ++ block_view there.frame.block ∷ []) (gap_ranges due (due.sample + gap) there.start) (due_after due gap there)
+  given : GivesFrame rules due there ahead (gap_blocks rules due (due.sample + gap) ++ block_view there.frame.block ∷ []) (gap_ranges due (due.sample + gap) there.start) (due_after due gap there)
   given = record {
-    of_stream = stream;
     gap = gap;
-    in_order = at.0;
+    kept = at.0;
     time_is = at.1;
     blocks_are = refl;
     lost_are = refl;
@@ -78,20 +67,21 @@ module _ {W : Type 0} (contents : W → Option (List ℕ)) (rules : Rules) (ther
   }
 
   -- silence that wasn't written
-  pub gap_before_stops : (before after : WavWriter W) (e : Error) → StopsWriting (gap_blocks rules due (due.sample + gap)) e before after → StopsAtFrame rules due before after there e
+  pub gap_before_stops : (before after : WavWriter W) (e : Error) → StopsWriting (gap_blocks rules due (due.sample + gap)) e before after → StopsAtFrame rules due before after there ahead e
   gap_before_stops before after e stops = (gap_blocks rules due (due.sample + gap) ++ block_view there.frame.block ∷ [], gap_ranges due (due.sample + gap) there.start, due_after due gap there, given, stops_before (gap_blocks rules due (due.sample + gap)) (block_view there.frame.block ∷ []) before after e stops)
 
   -- a block that wasn't written
-  pub frame_stops : (before mid after : WavWriter W) (e : Error) → PutsSamples contents (gap_blocks rules due (due.sample + gap)) before mid → KeepsRoom before mid → StopsWriting (block_view there.frame.block ∷ []) e mid after → StopsAtFrame rules due before after there e
+  pub frame_stops : (before mid after : WavWriter W) (e : Error) → PutsSamples contents (gap_blocks rules due (due.sample + gap)) before mid → KeepsRoom before mid → StopsWriting (block_view there.frame.block ∷ []) e mid after → StopsAtFrame rules due before after there ahead e
   frame_stops before mid after e puts keeps stops = (gap_blocks rules due (due.sample + gap) ++ block_view there.frame.block ∷ [], gap_ranges due (due.sample + gap) there.start, due_after due gap there, given, stops_after (gap_blocks rules due (due.sample + gap)) (block_view there.frame.block ∷ []) before mid after e puts keeps stops)
 
   -- the block and what is missing before it were written
-  pub placed : (old mid new : Rescue) (before between after : WavWriter W) → old.due ≡ due → new.due ≡ due_after due gap there → new.losses ≡ mid.losses → PutsGap contents rules old mid before between (due.sample + gap) there.start → PutsSamples contents (block_view there.frame.block ∷ []) between after
+  pub placed : (old mid new : Rescue) (before between after : WavWriter W) → old.due ≡ due → waiting_frames old.waiting ≡ ahead → waiting_frames new.waiting ≡ waiting_frames mid.waiting → new.due ≡ due_after due gap there → new.losses ≡ mid.losses → PutsGap contents rules old mid before between (due.sample + gap) there.start → PutsSamples contents (block_view there.frame.block ∷ []) between after
       → HashesToo rules.info.bits_per_sample there.frame.block mid.md5 new.md5 → PutsFrame contents rules old new before after there
-  placed old mid new before between after is next losses puts block hashes = record {
+  placed old mid new before between after is waits waiting next losses puts block hashes = record {
     blocks = gap_blocks rules due (due.sample + gap) ++ block_view there.frame.block ∷ [];
     lost = gap_ranges due (due.sample + gap) there.start;
-    gives = inl (subst (λ (d : Due). GivesFrame rules old.due there (gap_blocks rules due (due.sample + gap) ++ block_view there.frame.block ∷ []) (gap_ranges due (due.sample + gap) there.start) d) (sym next) (subst (λ (d : Due). GivesFrame rules d there (gap_blocks rules due (due.sample + gap) ++ block_view there.frame.block ∷ []) (gap_ranges due (due.sample + gap) there.start) (due_after due gap there)) (sym is) given));
+    gives = inl (subst (λ (l : List FrameThere). GivesFrame rules old.due there l (gap_blocks rules due (due.sample + gap) ++ block_view there.frame.block ∷ []) (gap_ranges due (due.sample + gap) there.start) new.due) (sym waits) (subst (λ (d : Due). GivesFrame rules old.due there ahead (gap_blocks rules due (due.sample + gap) ++ block_view there.frame.block ∷ []) (gap_ranges due (due.sample + gap) there.start) d) (sym next) (subst (λ (d : Due). GivesFrame rules d there ahead (gap_blocks rules due (due.sample + gap) ++ block_view there.frame.block ∷ []) (gap_ranges due (due.sample + gap) there.start) (due_after due gap there)) (sym is) given)));
+    same_waiting = waiting ∙ puts.same_waiting;
     puts = puts_both (subst (λ (d : Due). PutsSamples contents (gap_blocks rules d (due.sample + gap)) before between) is puts.puts) block;
     notes = subst (λ (l : Losses). NotesRanges (gap_ranges due (due.sample + gap) there.start) old.losses l) (sym losses) (subst (λ (d : Due). NotesRanges (gap_ranges d (due.sample + gap) there.start) old.losses mid.losses) is puts.notes);
     hashes = subst (λ (l : List LostRange). HashesGiven rules.info.bits_per_sample l (gap_blocks rules due (due.sample + gap) ++ block_view there.frame.block ∷ []) old.md5 new.md5) (append-nil (gap_ranges due (due.sample + gap) there.start))

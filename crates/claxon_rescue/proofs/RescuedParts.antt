@@ -1,6 +1,6 @@
 -- What the parts of a damaged stream give, one after another.
 use Rattle.std.proofs.Common.{◌≡◌, inl, inr, ℕ, ◌+◌, ◌-◌, ◌^◌, ◌≤◌, List, [], ◌∷◌, ◌++◌, length, Option, None, Some, refl, sym, ap, subst, ◌∙◌, append_assoc, append-nil, arith, length-append}
-use Rattle.std.specs.Prelude.{Result, Ok, Err}
+use Rattle.std.specs.Prelude.{◌⊎◌, Result, Ok, Err}
 use Rattle.claxon.specs.Errors.{Error as Cause}
 use Rattle.claxon.specs.Frame.{Block}
 use Rattle.claxon.specs.Source.{Source}
@@ -15,21 +15,27 @@ use Rattle.claxon_recovery.specs.declared.part.Part.TheVariants.{Damage as Damag
 use Rattle.claxon_recovery.specs.declared.parts.Parts.{Parts}
 use Rattle.claxon_seek.specs.BlockMemory.{MemoryIsCounted}
 use Rattle.claxon_wav.specs.Convert.{PutsSamples}
-use Rattle.claxon_rescue.specs.PutParts.{PutPartFaultIsSound, PutPartIsSound, PutPartsFaultIsSound, PutPartsIsSound, PutsPart, PutsParts, StopsInPart, StopsRescue}
-use Rattle.claxon_rescue.specs.PutSteps.{HashesGiven, NotesRanges, PutFrameFaultIsSound, PutFrameIsSound, PutGapFaultIsSound, PutGapIsSound, PutsGap, StopsWriting}
-use Rattle.claxon_rescue.specs.Rescue.{gap_blocks, gap_ranges, last_sample}
-use Rattle.claxon_rescue.specs.RescuedStream.{AreParts, PartGives, PartsGive, position_after}
+use Rattle.claxon_rescue.specs.PutParts.{MakesRoom, NoneLeft, PutPartsFaultIsSound, PutPartsIsSound, PutsPart, PutsParts, PutsWaiting, StopsAtFirst, StopsInFrame, StopsInFrames, StopsRescue}
+use Rattle.claxon_rescue.specs.PutSteps.{HashesGiven, NotesRanges, PutGapFaultIsSound, PutGapIsSound, PutsGap, StopsWriting}
+use Rattle.claxon_rescue.specs.Rescue.{AreOfStream, GivesFrame, IsOfStream, gap_blocks, gap_ranges, last_sample}
+use Rattle.claxon_rescue.specs.RescuedStream.{AreFrames, AreParts, FramesGive, position_after}
 use Rattle.claxon_rescue.specs.Times.{first_due}
+use Rattle.claxon_rescue.specs.LookAhead.{look_ahead}
+use Rattle.claxon_rescue.specs.Waiting.{waiting_frames}
 use Rattle.claxon_wav.specs.Writer.{KeepsRoom}
+use Rattle.claxon_md5.specs.declared.Md5.{Md5}
+use Rattle.std.proofs.lemmas.List.{take_all}
 use Rattle.claxon_wav.specs.declared.error.Error.{Error}
 use Rattle.claxon_wav.specs.declared.error.Error.TheVariants.{Claxon}
 use Rattle.claxon_rescue.specs.declared.due.Due.{Due}
 use Rattle.claxon_rescue.specs.declared.due.Rules.{Rules}
 use Rattle.claxon_rescue.specs.declared.losses.LostRange.{LostRange}
+use Rattle.claxon_rescue.specs.declared.losses.Losses.{Losses}
 use Rattle.claxon_rescue.specs.declared.parts.Rescue.{Rescue}
 use Rattle.claxon_wav.specs.declared.writer.WavWriter.{WavWriter}
 use Rattle.claxon_wav.proofs.Converting.{puts_none}
 use Rattle.claxon_rescue.proofs.Rescuing.{given_both, given_none, notes_both, notes_none, puts_both, stops_after}
+use Rattle.claxon_rescue.proofs.Waited.{are_of_stream, decided_beyond, frames_both, frames_more, of_stream_after, puts_no_frames}
 
 -- ---- one part more
 
@@ -41,29 +47,6 @@ pub position_more : (start : ℕ) (parts : List Part) (part : Part) → position
 position_more start [] part = refl
 position_more start (first ∷ parts) part = position_more (after_part start (Some first)) parts part
 
-pub gives_more : (rules : Rules) (due next last : Due) (parts : List Part) (part : Part) (blocks bs : List Block) (lost ls : List LostRange) → PartsGive rules due parts blocks lost next → PartGives rules next part bs ls last → PartsGive rules due (parts ++ part ∷ []) (blocks ++ bs) (lost ++ ls) last
-gives_more rules due next last [] part blocks bs lost ls none gives = (
-  bs,
-  ls,
-  last,
-  subst (λ (d : Due). PartGives rules d part bs ls last) none.0.same gives,
-  ([], [], (record { none = refl; same = refl }, refl), ap (λ (l : List Block). l ++ bs) none.0.none ∙ sym (append-nil bs), ap (λ (l : List LostRange). l ++ ls) none.1 ∙ sym (append-nil ls)),
-)
-gives_more rules due next last (first ∷ parts) part blocks bs lost ls all gives =
-    let k = all.4 in (
-      all.0,
-      all.1,
-      all.2,
-      all.3,
-      (
-        k.0 ++ bs,
-        k.1 ++ ls,
-        gives_more rules all.2 next last parts part k.0 bs k.1 ls k.2 gives,
-        ap (λ (l : List Block). l ++ bs) k.3 ∙ append_assoc all.0 k.0 bs,
-        ap (λ (l : List LostRange). l ++ ls) k.4 ∙ append_assoc all.1 k.1 ls,
-      ),
-    )
-
 same_end : (n m : ℕ) (part : Part) → after_part n (Some part) ≡ after_part m (Some part)
 same_end n m (FramePart there) = refl
 same_end n m (DamagePart damage) = refl
@@ -71,21 +54,55 @@ same_end n m (DamagePart damage) = refl
 -- ---- one part
 
 module _ {W : Type 0} (contents : W → Option (List ℕ)) (rules : Rules) where
-  pub frame_part : (old new : Rescue) (before after : WavWriter W) (part : Part) (there : FrameThere) → part ≡ FramePart there → (r : Result (Unit {0}) Error) → PutFrameIsSound contents rules old new before after there r → PutPartIsSound contents rules old new before after part r
-  frame_part old new before after part there is (Ok done) puts = subst (λ (p : Part). PutsPart contents rules old new before after p) (sym is) (record { blocks = puts.blocks; lost = puts.lost; gives = puts.gives; puts = puts.puts; notes = puts.notes; hashes = puts.hashes })
-  frame_part old new before after part there is (Err e) puts = tt
+  -- it has no frame of the stream
+  none_added : (old : Rescue) (file : WavWriter W) (part : Part) → AreFrames rules.info (part ∷ []) [] → PutsPart contents rules old old file file part
+  none_added old file part are = record {
+    adds = [];
+    are_frames = are;
+    first = [];
+    rest = waiting_frames old.waiting;
+    were = refl;
+    wait = sym (append-nil (waiting_frames old.waiting));
+    decided = inl refl;
+    puts = puts_no_frames rules old file (waiting_frames old.waiting);
+  }
 
-  pub damage_part : (old : Rescue) (file : WavWriter W) (part : Part) (damage : Damage) → part ≡ DamagePart damage → PutsPart contents rules old old file file part
-  damage_part old file part damage is = subst (λ (p : Part). PutsPart contents rules old old file file p) (sym is) (record { blocks = []; lost = []; gives = (record { none = refl; same = refl }, refl); puts = puts_none file; notes = notes_none old.losses; hashes = given_none old.md5 })
+  pub damage_part : (old : Rescue) (file : WavWriter W) (part : Part) → ((there : FrameThere) → part ≡ FramePart there → ⊥) → PutsPart contents rules old old file file part
+  damage_part old file (DamagePart damage) other = none_added old file (DamagePart damage) refl
+  damage_part old file (FramePart there) other = absurd (other there refl)
 
-pub frame_part_stops : {W : Type 0} (rules : Rules) (due : Due) (before after : WavWriter W) (part : Part) (there : FrameThere) → part ≡ FramePart there → (r : Result (Unit {0}) Error) → PutFrameFaultIsSound rules due before after there r → PutPartFaultIsSound rules due before after part r
-frame_part_stops rules due before after part there is (Ok done) stops = tt
-frame_part_stops rules due before after part there is (Err e) stops = (there, is, stops)
+  pub other_frame : (old : Rescue) (file : WavWriter W) (part : Part) (there : FrameThere) → part ≡ FramePart there → (IsOfStream rules.info there.frame → ⊥) → PutsPart contents rules old old file file part
+  other_frame old file part there is other = subst (λ (p : Part). PutsPart contents rules old old file file p) (sym is) (none_added old file (FramePart there) (inr (other, refl)))
+
+  -- its frame waits
+  pub frame_waits : (old mid new : Rescue) (before after : WavWriter W) (part : Part) (there : FrameThere) → part ≡ FramePart there → IsOfStream rules.info there.frame → MakesRoom contents rules old mid before after → new.due ≡ mid.due → new.losses ≡ mid.losses → new.md5 ≡ mid.md5 → waiting_frames new.waiting ≡ waiting_frames mid.waiting ++ there ∷ [] → PutsPart contents rules old new before after part
+  frame_waits old mid new before after part there is stream h due losses md5 wait =
+      let k = h.puts in
+      let rest = waiting_frames mid.waiting in
+      record {
+        adds = there ∷ [];
+        are_frames = subst (λ (p : Part). AreFrames rules.info (p ∷ []) (there ∷ [])) (sym is) (inl (stream, ([], refl, refl)));
+        first = h.first;
+        rest = rest;
+        were = h.were;
+        wait = wait;
+        decided = h.decided;
+        puts = record {
+          blocks = k.blocks;
+          lost = k.lost;
+          gives = subst (λ (d : Due). FramesGive rules old.due h.first rest k.blocks k.lost d) (sym due) k.gives;
+          puts = k.puts;
+          notes = subst (λ (l : Losses). NotesRanges k.lost old.losses l) (sym losses) k.notes;
+          hashes = subst (λ (m : Option Md5). HashesGiven rules.info.bits_per_sample k.lost k.blocks old.md5 m) (sym md5) k.hashes;
+        };
+      }
 
 -- ---- all parts so far
 
 pub record SoFar {R W : Type 0} (source : R → Source ℕ) (contents : W → Option (List ℕ)) (rules : Rules) (start : ℕ) (before now : Parts R) (old new : WavWriter W) (begun rescue : Rescue) (end count : ℕ) : Type 0 where
   pub parts : List Part
+  pub done : List FrameThere
+  pub are_frames : AreFrames rules.info parts (done ++ waiting_frames rescue.waiting)
   pub blocks : List Block
   pub lost : List LostRange
   pub long : length parts ≡ count
@@ -96,7 +113,7 @@ pub record SoFar {R W : Type 0} (source : R → Source ℕ) (contents : W → Op
   pub at : parts_position now ≡ position_after start parts
   pub end_is : end ≡ position_after start parts
   pub info : parts_info now ≡ rules.info
-  pub gives : PartsGive rules (first_due start) parts blocks lost rescue.due
+  pub gives : (later : List FrameThere) → FramesGive rules (first_due start) done (waiting_frames rescue.waiting ++ later) blocks lost rescue.due
   pub puts : PutsSamples contents blocks old new
   pub notes : NotesRanges lost begun.losses rescue.losses
   pub hashes : HashesGiven rules.info.bits_per_sample lost blocks begun.md5 rescue.md5
@@ -104,9 +121,11 @@ pub record SoFar {R W : Type 0} (source : R → Source ℕ) (contents : W → Op
   pub memory : parts_memory now ≡ parts_memory before
 
 module _ {R W : Type 0} (source : R → Source ℕ) (contents : W → Option (List ℕ)) (rules : Rules) (start : ℕ) where
-  pub none_so_far : (before : Parts R) (old : WavWriter W) (begun : Rescue) → parts_position before ≡ start → parts_info before ≡ rules.info → begun.due ≡ first_due start → SoFar source contents rules start before before old old begun begun start 0
-  none_so_far before old begun at info due = record {
+  pub none_so_far : (before : Parts R) (old : WavWriter W) (begun : Rescue) → parts_position before ≡ start → parts_info before ≡ rules.info → begun.due ≡ first_due start → waiting_frames begun.waiting ≡ [] → SoFar source contents rules start before before old old begun begun start 0
+  none_so_far before old begun at info due waiting = record {
     parts = [];
+    done = [];
+    are_frames = waiting;
     blocks = [];
     lost = [];
     long = refl;
@@ -117,7 +136,7 @@ module _ {R W : Type 0} (source : R → Source ℕ) (contents : W → Option (Li
     at = at;
     end_is = refl;
     info = info;
-    gives = (record { none = refl; same = due }, refl);
+    gives = λ later. (record { none = refl; same = due }, refl);
     puts = puts_none old;
     notes = notes_none begun.losses;
     hashes = given_none begun.md5;
@@ -134,121 +153,197 @@ module _ {R W : Type 0} (source : R → Source ℕ) (contents : W → Option (Li
     next_at next part there = there.1 ∙ ap (λ (n : ℕ). after_part n (Some part)) h.at ∙ sym (position_more start h.parts part)
 
     -- one part more
-    pub one_more : (next : Parts R) (part : Part) (z : WavWriter W) (after : Rescue) (stop : ℕ) (bs : List Block) (ls : List LostRange) → PartIsThere source now next (Ok (Some part)) → parts_info next ≡ parts_info now → parts_memory next ≡ parts_memory now → stop ≡ after_part (position_after start h.parts) (Some part) → PartGives rules rescue.due part bs ls after.due
-        → PutsSamples contents bs new z → NotesRanges ls rescue.losses after.losses → HashesGiven rules.info.bits_per_sample ls bs rescue.md5 after.md5 → KeepsRoom new z → SoFar source contents rules start before next old z begun after stop (count + 1)
-    one_more next part z after stop bs ls there info memory ends gives puts notes hashes room = record {
-      parts = h.parts ++ part ∷ [];
-      blocks = h.blocks ++ bs;
-      lost = h.lost ++ ls;
-      long = length-append h.parts (part ∷ []) ∙ omega (arith, h.long);
-      more = h.more ++ there.0.more;
-      reads = reads_both h.reads there.0.reads;
-      known = λ known. (there.0.reads.known (h.known known)).known;
-      are_parts = λ known. are_more rules.info start (unread source before) (unread source now) (unread source next) h.parts part (h.are_parts known) (part_there next part there known);
-      at = next_at next part there;
-      end_is = ends ∙ sym (position_more start h.parts part);
-      info = info ∙ h.info;
-      gives = gives_more rules (first_due start) rescue.due after.due h.parts part h.blocks bs h.lost ls h.gives gives;
-      puts = puts_both h.puts puts;
-      notes = notes_both h.notes notes;
-      hashes = given_both h.hashes hashes;
-      room = λ n has. room n (h.room n has);
-      memory = memory ∙ h.memory;
-    }
+    module _ (next : Parts R) (part : Part) (z : WavWriter W) (after : Rescue) (puts : PutsPart contents rules rescue after new z part) where
+      abbrev now_done : List FrameThere
+      now_done = h.done ++ puts.first
 
-    pub one_part : (next : Parts R) (part : Part) (z : WavWriter W) (after : Rescue) (stop : ℕ) → PartIsThere source now next (Ok (Some part)) → parts_info next ≡ parts_info now → parts_memory next ≡ parts_memory now → stop ≡ after_part 0 (Some part) → PutsPart contents rules rescue after new z part → KeepsRoom new z
-        → SoFar source contents rules start before next old z begun after stop (count + 1)
-    one_part next part z after stop is info memory ends puts room = one_more next part z after stop puts.blocks puts.lost is info memory (ends ∙ same_end 0 (position_after start h.parts) part) puts.gives puts.puts puts.notes puts.hashes room
+      wait_now : (now_done ++ waiting_frames after.waiting) ≡ (h.done ++ waiting_frames rescue.waiting) ++ puts.adds
+      wait_now = ap (λ (l : List FrameThere). (h.done ++ puts.first) ++ l) puts.wait ∙ sym (append_assoc (h.done ++ puts.first) puts.rest puts.adds) ∙ ap (λ (l : List FrameThere). l ++ puts.adds) (append_assoc h.done puts.first puts.rest ∙ ap (λ (l : List FrameThere). h.done ++ l) (sym puts.were))
+
+      more_given : (later : List FrameThere) → FramesGive rules (first_due start) now_done (waiting_frames after.waiting ++ later) (h.blocks ++ puts.puts.blocks) (h.lost ++ puts.puts.lost) after.due
+      more_given later =
+          let k = puts.puts in
+          let then_later = puts.adds ++ later in
+          let same : waiting_frames rescue.waiting ++ then_later ≡ puts.first ++ (puts.rest ++ then_later) = ap (λ (l : List FrameThere). l ++ then_later) puts.were ∙ append_assoc puts.first puts.rest then_later in
+          let one = subst (λ (l : List FrameThere). FramesGive rules (first_due start) h.done l h.blocks h.lost rescue.due) same (h.gives then_later) in
+          let two = decided_beyond rules rescue.due after.due puts.first puts.rest then_later k.blocks k.lost puts.decided k.gives in
+          let all = frames_both rules (first_due start) rescue.due after.due h.done puts.first (puts.rest ++ then_later) h.blocks k.blocks h.lost k.lost one two in
+          let waits : puts.rest ++ then_later ≡ waiting_frames after.waiting ++ later = sym (ap (λ (l : List FrameThere). l ++ later) puts.wait ∙ append_assoc puts.rest puts.adds later) in
+          subst (λ (l : List FrameThere). FramesGive rules (first_due start) now_done l (h.blocks ++ k.blocks) (h.lost ++ k.lost) after.due) waits all
+
+      pub one_part : (stop : ℕ) → PartIsThere source now next (Ok (Some part)) → parts_info next ≡ parts_info now → parts_memory next ≡ parts_memory now → stop ≡ after_part 0 (Some part) → KeepsRoom new z → SoFar source contents rules start before next old z begun after stop (count + 1)
+      one_part stop there info memory ends room = record {
+        parts = h.parts ++ part ∷ [];
+        done = now_done;
+        are_frames = subst (λ (l : List FrameThere). AreFrames rules.info (h.parts ++ part ∷ []) l) (sym wait_now) (frames_more rules.info h.parts part (h.done ++ waiting_frames rescue.waiting) puts.adds h.are_frames puts.are_frames);
+        blocks = h.blocks ++ puts.puts.blocks;
+        lost = h.lost ++ puts.puts.lost;
+        long = length-append h.parts (part ∷ []) ∙ omega (arith, h.long);
+        more = h.more ++ there.0.more;
+        reads = reads_both h.reads there.0.reads;
+        known = λ known. (there.0.reads.known (h.known known)).known;
+        are_parts = λ known. are_more rules.info start (unread source before) (unread source now) (unread source next) h.parts part (h.are_parts known) (part_there next part there known);
+        at = next_at next part there;
+        end_is = ends ∙ same_end 0 (position_after start h.parts) part ∙ sym (position_more start h.parts part);
+        info = info ∙ h.info;
+        gives = more_given;
+        puts = puts_both h.puts puts.puts.puts;
+        notes = notes_both h.notes puts.puts.notes;
+        hashes = given_both h.hashes puts.puts.hashes;
+        room = λ n has. room n (h.room n has);
+        memory = memory ∙ h.memory;
+      }
+
+    pub all_of_stream : AreOfStream rules.info (waiting_frames rescue.waiting)
+    all_of_stream = of_stream_after rules.info h.done (waiting_frames rescue.waiting) (are_of_stream rules.info h.parts (h.done ++ waiting_frames rescue.waiting) h.are_frames)
 
     -- what stops: a read
-    pub read_stops : (next : Parts R) (cause : Cause) → PartStops source now next cause → MemoryIsCounted (let r : Result (Option Part) Cause = Err cause in r) (parts_memory now) (parts_memory next) → (e : Error) → e ≡ Claxon cause → StopsRescue source contents rules start before next old new e
-    read_stops next cause stops counts e is = record {
+    pub read_stops : (next : Parts R) (z : WavWriter W) (cause : Cause) → PartStops source now next cause → MemoryIsCounted (let r : Result (Option Part) Cause = Err cause in r) (parts_memory now) (parts_memory next) → (e : Error) → e ≡ Claxon cause → StopsRescue source contents rules start before next old z e
+    read_stops next z cause stops counts e is = record {
       parts = h.parts;
-      given = h.blocks;
-      lost = h.lost;
-      due = rescue.due;
       from = now;
       more = h.more;
       reads = h.reads;
       are_parts = h.are_parts;
-      gives = h.gives;
       stops = inl (record { cause = cause; is = is; stops = stops; counts = subst (λ m. MemoryIsCounted (let r : Result (Option Part) Cause = Err cause in r) m (parts_memory next)) h.memory counts });
     }
 
     -- a frame
-    pub part_stops : (next : Parts R) (part : Part) (z : WavWriter W) (e : Error) → PartIsThere source now next (Ok (Some part)) → StopsInPart rules rescue.due new z part e → StopsRescue source contents rules start before next old z e
-    part_stops next part z e is (there, frame, stop) = record {
-      parts = h.parts;
-      given = h.blocks;
-      lost = h.lost;
-      due = rescue.due;
-      from = now;
-      more = h.more;
-      reads = h.reads;
-      are_parts = h.are_parts;
-      gives = h.gives;
-      stops = inr (inl (record { there = there; is_there = λ known. subst (λ (p : Part). IsPart rules.info (position_after start h.parts) (unread source now) (unread source next) (Some p)) frame (part_there next part is known); blocks = stop.0; lost = stop.1; next = stop.2; gives = stop.3; stops = stops_after h.blocks stop.0 old new z e h.puts h.room stop.4 }));
-    }
+    frames_stop : (next : Parts R) (z : WavWriter W) (e : Error) (stops : StopsInFrames rules rescue.due new z (waiting_frames rescue.waiting) e) → (look_ahead ≤ length stops.ahead) ⊎ NoneLeft source before now → StopsInFrame source contents rules start before next old z e now h.parts
+    frames_stop next z e stops decided =
+        let same : waiting_frames rescue.waiting ++ [] ≡ stops.first ++ (stops.there ∷ stops.ahead) = append-nil (waiting_frames rescue.waiting) ∙ stops.are in
+        let one = subst (λ (l : List FrameThere). FramesGive rules (first_due start) h.done l h.blocks h.lost rescue.due) same (h.gives []) in
+        record {
+          frames = h.done ++ waiting_frames rescue.waiting;
+          are_frames = h.are_frames;
+          stops = record {
+            first = h.done ++ stops.first;
+            there = stops.there;
+            ahead = stops.ahead;
+            are = ap (λ (l : List FrameThere). h.done ++ l) stops.are ∙ sym (append_assoc h.done stops.first (stops.there ∷ stops.ahead));
+            given = h.blocks ++ stops.given;
+            lost = h.lost ++ stops.lost;
+            then_due = stops.then_due;
+            gives = frames_both rules (first_due start) rescue.due stops.then_due h.done stops.first (stops.there ∷ stops.ahead) h.blocks stops.given h.lost stops.lost one stops.gives;
+            blocks = stops.blocks;
+            ranges = stops.ranges;
+            next = stops.next;
+            gives_it = stops.gives_it;
+            stops = subst (λ (l : List Block). StopsWriting l e old z) (sym (append_assoc h.blocks stops.given stops.blocks)) (stops_after h.blocks (stops.given ++ stops.blocks) old new z e h.puts h.room stops.stops);
+          };
+          decided = decided;
+        }
 
-    -- the silence at the end
+    -- the first one that waited
+    pub part_stops : (next : Parts R) (z : WavWriter W) (e : Error) → StopsAtFirst rules rescue.due new z (waiting_frames rescue.waiting) e → StopsRescue source contents rules start before next old z e
+    part_stops next z e (there, ahead, are, long, stop) =
+        let few : length ahead ≤ look_ahead = omega (arith, long) in
+        let first : StopsInFrames rules rescue.due new z (waiting_frames rescue.waiting) e = record {
+          first = [];
+          there = there;
+          ahead = ahead;
+          are = are;
+          given = [];
+          lost = [];
+          then_due = rescue.due;
+          gives = (record { none = refl; same = refl }, refl);
+          blocks = stop.0;
+          ranges = stop.1;
+          next = stop.2;
+          gives_it = subst (λ (l : List FrameThere). GivesFrame rules rescue.due there l stop.0 stop.1 stop.2) (sym (take_all look_ahead ahead few)) stop.3;
+          stops = stop.4;
+        } in
+        record {
+          parts = h.parts;
+          from = now;
+          more = h.more;
+          reads = h.reads;
+          are_parts = h.are_parts;
+          stops = inr (inl (frames_stop next z e first (inl (omega (arith, long)))));
+        }
+
     no_more : (next : Parts R) → PartIsThere source now next (Ok None) → SourceIsKnown source before → unread source now ≡ []
     no_more next there known = (there.0.is (h.known known)).0
 
-    pub end_stops : (next : Parts R) (z : WavWriter W) (e : Error) → PartIsThere source now next (Ok None) → StopsWriting (gap_blocks rules rescue.due (last_sample rules rescue.due)) e new z → StopsRescue source contents rules start before next old z e
-    end_stops next z e is stop = record {
+    -- one of the last ones
+    pub waiting_stops : (next : Parts R) (z : WavWriter W) (e : Error) → PartIsThere source now next (Ok None) → StopsInFrames rules rescue.due new z (waiting_frames rescue.waiting) e → StopsRescue source contents rules start before next old z e
+    waiting_stops next z e is stops = record {
       parts = h.parts;
-      given = h.blocks;
-      lost = h.lost;
-      due = rescue.due;
       from = now;
       more = h.more;
       reads = h.reads;
       are_parts = h.are_parts;
-      gives = h.gives;
-      stops = inr (inr (inl (record { ends = no_more next is; stops = stops_after h.blocks (gap_blocks rules rescue.due (last_sample rules rescue.due)) old new z e h.puts h.room stop })));
+      stops = inr (inl (frames_stop next z e stops (inr (no_more next is))));
     }
 
     -- too many parts
     pub count_stops : (e : Error) → 2 ^ 64 - 1 ≤ count → StopsRescue source contents rules start before now old new e
     count_stops e many = record {
       parts = h.parts;
-      given = h.blocks;
-      lost = h.lost;
-      due = rescue.due;
       from = now;
       more = h.more;
       reads = h.reads;
       are_parts = h.are_parts;
-      gives = h.gives;
       stops = inr (inr (inr (omega (arith, many, h.long))));
     }
 
-    -- all parts
-    pub all_parts : (next : Parts R) (z : WavWriter W) (after : Rescue) → PartIsThere source now next (Ok None) → PutsGap contents rules rescue after new z (last_sample rules rescue.due) end → PutsParts source contents rules start before next old z begun after
-    all_parts next z after is rest = record {
-      more = h.more ++ is.0.more;
-      reads = reads_both h.reads is.0.reads;
-      parts = h.parts;
-      blocks = h.blocks ++ gap_blocks rules rescue.due (last_sample rules rescue.due);
-      lost = h.lost ++ gap_ranges rescue.due (last_sample rules rescue.due) end;
-      are_parts = λ known. subst (λ (m : List ℕ). AreParts rules.info start (unread source before) h.parts m) (no_more next is known) (h.are_parts known);
-      rescues = record {
-        given = h.blocks;
-        ranges = h.lost;
-        last = rescue.due;
-        gives = h.gives;
-        blocks_are = refl;
-        lost_are = ap (λ (n : ℕ). h.lost ++ gap_ranges rescue.due (last_sample rules rescue.due) n) h.end_is;
-      };
-      puts = puts_both h.puts rest.puts;
-      notes = notes_both h.notes rest.notes;
-      hashes = given_both h.hashes rest.hashes;
-    }
+    -- the end, after all that waited were written
+    module _ (next : Parts R) (y z : WavWriter W) (last after : Rescue) (is : PartIsThere source now next (Ok None)) (waited : PutsWaiting contents rules rescue last new y) (room : KeepsRoom new y) where
+      abbrev all : List FrameThere
+      all = h.done ++ waiting_frames rescue.waiting
 
-    pub all_given : (next : Parts R) (z : WavWriter W) (after : Rescue) → PartIsThere source now next (Ok None) → (r : Result (Unit {0}) Error) → PutGapIsSound contents rules rescue after new z (last_sample rules rescue.due) end r → PutPartsIsSound source contents rules start before next old z r begun after
-    all_given next z after is (Ok done) rest = all_parts next z after is rest
-    all_given next z after is (Err e) rest = tt
+      all_gives : FramesGive rules (first_due start) all [] (h.blocks ++ waited.all.blocks) (h.lost ++ waited.all.lost) last.due
+      all_gives = frames_both rules (first_due start) rescue.due last.due h.done (waiting_frames rescue.waiting) [] h.blocks waited.all.blocks h.lost waited.all.lost (h.gives []) waited.all.gives
 
-    pub rest_stops : (next : Parts R) (z : WavWriter W) → PartIsThere source now next (Ok None) → (r : Result (Unit {0}) Error) → PutGapFaultIsSound rules rescue.due new z (last_sample rules rescue.due) r → PutPartsFaultIsSound source contents rules start before next old z r
-    rest_stops next z is (Ok done) stops = tt
-    rest_stops next z is (Err e) stops = end_stops next z e is stops
+      all_puts : PutsSamples contents (h.blocks ++ waited.all.blocks) old y
+      all_puts = puts_both h.puts waited.all.puts
+
+      end_stops : (e : Error) → StopsWriting (gap_blocks rules last.due (last_sample rules last.due)) e y z → StopsRescue source contents rules start before next old z e
+      end_stops e stop = record {
+        parts = h.parts;
+        from = now;
+        more = h.more;
+        reads = h.reads;
+        are_parts = h.are_parts;
+        stops = inr (inr (inl (record {
+          frames = all;
+          are_frames = h.are_frames;
+          given = h.blocks ++ waited.all.blocks;
+          lost = h.lost ++ waited.all.lost;
+          due = last.due;
+          gives = all_gives;
+          none_left = no_more next is;
+          stops = stops_after (h.blocks ++ waited.all.blocks) (gap_blocks rules last.due (last_sample rules last.due)) old y z e all_puts (λ n has. room n (h.room n has)) stop;
+        })));
+      }
+
+      all_parts : PutsGap contents rules last after y z (last_sample rules last.due) end → PutsParts source contents rules start before next old z begun after
+      all_parts rest = record {
+        more = h.more ++ is.0.more;
+        reads = reads_both h.reads is.0.reads;
+        parts = h.parts;
+        blocks = (h.blocks ++ waited.all.blocks) ++ gap_blocks rules last.due (last_sample rules last.due);
+        lost = (h.lost ++ waited.all.lost) ++ gap_ranges last.due (last_sample rules last.due) end;
+        are_parts = λ known. subst (λ (m : List ℕ). AreParts rules.info start (unread source before) h.parts m) (no_more next is known) (h.are_parts known);
+        rescues = record {
+          frames = all;
+          are_frames = h.are_frames;
+          given = h.blocks ++ waited.all.blocks;
+          ranges = h.lost ++ waited.all.lost;
+          last = last.due;
+          gives = all_gives;
+          blocks_are = refl;
+          lost_are = ap (λ (n : ℕ). (h.lost ++ waited.all.lost) ++ gap_ranges last.due (last_sample rules last.due) n) h.end_is;
+        };
+        puts = puts_both all_puts rest.puts;
+        notes = notes_both (notes_both h.notes waited.all.notes) rest.notes;
+        hashes = given_both (given_both h.hashes waited.all.hashes) rest.hashes;
+      }
+
+      pub all_given : (r : Result (Unit {0}) Error) → PutGapIsSound contents rules last after y z (last_sample rules last.due) end r → PutPartsIsSound source contents rules start before next old z r begun after
+      all_given (Ok done) rest = all_parts rest
+      all_given (Err e) rest = tt
+
+      pub rest_stops : (r : Result (Unit {0}) Error) → PutGapFaultIsSound rules last.due y z (last_sample rules last.due) r → PutPartsFaultIsSound source contents rules start before next old z r
+      rest_stops (Ok done) stops = tt
+      rest_stops (Err e) stops = end_stops e stops

@@ -1,5 +1,7 @@
 pub mod Losses
 pub mod Times
+pub mod LookAhead
+pub mod Waiting
 pub mod Rescue
 pub mod RescuedStream
 pub mod PutSteps

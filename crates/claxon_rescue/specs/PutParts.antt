@@ -8,10 +8,11 @@ use Rattle.std.specs.Prelude.{
   ◌≤◌,
   List,
   [],
+  ◌∷◌,
   ◌++◌,
   length,
+  take,
   Option,
-  Some,
   Result,
   Err,
   IfErr,
@@ -21,7 +22,6 @@ use Rattle.claxon.specs.Errors.{Error as Cause}
 use Rattle.claxon.specs.Frame.{Block}
 use Rattle.claxon.specs.Source.{Source}
 use Rattle.claxon_recovery.specs.Parts.{
-  IsPart,
   PartStops,
   SourceIsKnown,
   parts_memory,
@@ -31,14 +31,15 @@ use Rattle.claxon_recovery.specs.Parts.{
 use Rattle.claxon_recovery.specs.Window.{Reads}
 use Rattle.claxon_recovery.specs.declared.part.FrameThere.{FrameThere}
 use Rattle.claxon_recovery.specs.declared.part.Part.{Part}
-use Rattle.claxon_recovery.specs.declared.part.Part.TheVariants.{Frame as FramePart}
 use Rattle.claxon_recovery.specs.declared.parts.Parts.{Parts}
 use Rattle.claxon_seek.specs.BlockMemory.{MemoryIsCounted}
 use Rattle.claxon_wav.specs.Convert.{PutsSamples}
 use Rattle.claxon_rescue.specs.PutSteps.{HashesGiven, NotesRanges, StopsAtFrame, StopsWriting}
 use Rattle.claxon_rescue.specs.Rescue.{GivesFrame, gap_blocks, last_sample}
-use Rattle.claxon_rescue.specs.RescuedStream.{AreParts, PartGives, PartsGive, Rescues, position_after}
+use Rattle.claxon_rescue.specs.RescuedStream.{AreFrames, AreParts, FramesGive, Rescues}
 use Rattle.claxon_rescue.specs.Times.{first_due}
+use Rattle.claxon_rescue.specs.LookAhead.{look_ahead}
+use Rattle.claxon_rescue.specs.Waiting.{waiting_frames}
 use Rattle.claxon_wav.specs.declared.error.Error.{Error}
 use Rattle.claxon_wav.specs.declared.error.Error.TheVariants.{Claxon}
 use Rattle.claxon_rescue.specs.declared.due.Due.{Due}
@@ -47,32 +48,91 @@ use Rattle.claxon_rescue.specs.declared.losses.LostRange.{LostRange}
 use Rattle.claxon_rescue.specs.declared.parts.Rescue.{Rescue}
 use Rattle.claxon_wav.specs.declared.writer.WavWriter.{WavWriter}
 
--- ---- one part
+-- ---- frames that waited
+
+-- All is known that decides about the first frames: there are none, or as many as decide come after
+-- them.
+abbrev pub AreDecided : List FrameThere → List FrameThere → Type 0
+AreDecided first rest = (first ≡ []) ⊎ (look_ahead ≤ length rest)
 
 module _ {W : Type 0} (contents : W → Option (List ℕ)) (rules : Rules) (old new : Rescue)
     (before after : WavWriter W) where
-  -- What the part gives was written and noted.
-  pub record PutsPart (part : Part) : Type 0 where
+  -- What these frames give was written and noted. After them these come later.
+  pub record PutsFrames (frames later : List FrameThere) : Type 0 where
     pub blocks : List Block
     pub lost : List LostRange
-    pub gives : PartGives rules old.due part blocks lost new.due
+    pub gives : FramesGive rules old.due frames later blocks lost new.due
     pub puts : PutsSamples contents blocks before after
     pub notes : NotesRanges lost old.losses new.losses
     pub hashes : HashesGiven rules.info.bits_per_sample lost blocks old.md5 new.md5
+
+  -- All that waited were written.
+  pub record PutsWaiting : Type 0 where
+    pub all : PutsFrames (waiting_frames old.waiting) []
+    pub none_left : waiting_frames new.waiting ≡ []
+
+  abbrev pub PutWaitingIsSound : Result (Unit {0}) Error → Type 0
+  PutWaitingIsSound result = OnOk result PutsWaiting
+
+  -- The first one was written if all is known that decides about it. There is room for another one.
+  pub record MakesRoom : Type 0 where
+    pub first : List FrameThere
+    pub were : waiting_frames old.waiting ≡ first ++ waiting_frames new.waiting
+    pub decided : AreDecided first (waiting_frames new.waiting)
+    pub puts : PutsFrames first (waiting_frames new.waiting)
+    pub has_room : length (waiting_frames new.waiting) ≤ look_ahead
+
+  abbrev pub MakeRoomIsSound : Result (Unit {0}) Error → Type 0
+  MakeRoomIsSound result = OnOk result MakesRoom
+
+  -- The part's frame waits now, if it has one of the stream, after the first one was written.
+  pub record PutsPart (part : Part) : Type 0 where
+    pub adds : List FrameThere
+    pub are_frames : AreFrames rules.info (part ∷ []) adds
+    pub first : List FrameThere
+    pub rest : List FrameThere
+    pub were : waiting_frames old.waiting ≡ first ++ rest
+    pub wait : waiting_frames new.waiting ≡ rest ++ adds
+    pub decided : AreDecided first rest
+    pub puts : PutsFrames first rest
 
   abbrev pub PutPartIsSound : Part → Result (Unit {0}) Error → Type 0
   PutPartIsSound part result = OnOk result (PutsPart part)
 
 module _ {W : Type 0} (rules : Rules) (due : Due) (before after : WavWriter W) where
-  -- Not all of what the part gives was written: it is a frame.
-  abbrev pub StopsInPart : Part → Error → Type 0
-  StopsInPart part e =
-      (there : FrameThere) × (part ≡ FramePart there) × StopsAtFrame rules due before after there e
+  -- Not all of what these frames give was written.
+  pub record StopsInFrames (frames : List FrameThere) (e : Error) : Type 0 where
+    pub first : List FrameThere
+    pub there : FrameThere
+    pub ahead : List FrameThere
+    pub are : frames ≡ first ++ there ∷ ahead
+    pub given : List Block
+    pub lost : List LostRange
+    pub then_due : Due
+    pub gives : FramesGive rules due first (there ∷ ahead) given lost then_due
+    pub blocks : List Block
+    pub ranges : List LostRange
+    pub next : Due
+    pub gives_it : GivesFrame rules then_due there (take look_ahead ahead) blocks ranges next
+    pub stops : StopsWriting (given ++ blocks) e before after
 
-  abbrev pub PutPartFaultIsSound : Part → Result (Unit {0}) Error → Type 0
-  PutPartFaultIsSound part result = IfErr result (StopsInPart part)
+  abbrev pub PutWaitingFaultIsSound : List FrameThere → Result (Unit {0}) Error → Type 0
+  PutWaitingFaultIsSound frames result = IfErr result (StopsInFrames frames)
+
+  -- Not all of what the first one gives was written, about which all is known that decides.
+  abbrev pub StopsAtFirst : List FrameThere → Error → Type 0
+  StopsAtFirst frames e =
+      (there : FrameThere) × (ahead : List FrameThere) × (frames ≡ there ∷ ahead)
+      × (length ahead ≡ look_ahead) × StopsAtFrame rules due before after there ahead e
+
+  abbrev pub PutPartFaultIsSound : List FrameThere → Result (Unit {0}) Error → Type 0
+  PutPartFaultIsSound frames result = IfErr result (StopsAtFirst frames)
 
 -- ---- all parts
+
+-- No part is left, if the bytes of the source were known before.
+abbrev pub NoneLeft : {R : Type 0} → (R → Source ℕ) → Parts R → Parts R → Type 0
+NoneLeft source before from = SourceIsKnown source before → unread source from ≡ []
 
 module _ {R W : Type 0} (source : R → Source ℕ) (contents : W → Option (List ℕ)) (rules : Rules)
     (start : ℕ) (before after : Parts R) (old new : WavWriter W) where
@@ -90,7 +150,7 @@ module _ {R W : Type 0} (source : R → Source ℕ) (contents : W → Option (Li
     pub notes : NotesRanges lost begun.losses ended.losses
     pub hashes : HashesGiven rules.info.bits_per_sample lost blocks begun.md5 ended.md5
 
-  -- What stopped it after these parts, which gave these blocks: the next part couldn't be read.
+  -- What stopped it after these parts: the next part couldn't be read.
   pub record StopsAtPart (e : Error) (from : Parts R) : Type 0 where
     pub cause : Cause
     pub is : e ≡ Claxon cause
@@ -98,39 +158,35 @@ module _ {R W : Type 0} (source : R → Source ℕ) (contents : W → Option (Li
     pub counts : MemoryIsCounted {A = Option Part} (Err cause) (parts_memory before) (
         parts_memory after)
 
-  -- The next part is a frame of which not all was written.
-  pub record StopsInFrame (e : Error) (from : Parts R) (given : List Block) (due : Due)
-      (parts : List Part) : Type 0 where
-    pub there : FrameThere
-    pub is_there : SourceIsKnown source before
-        → IsPart rules.info (position_after start parts) (unread source from) (
-        unread source after) (Some (FramePart there))
-    pub blocks : List Block
-    pub lost : List LostRange
-    pub next : Due
-    pub gives : GivesFrame rules due there blocks lost next
-    pub stops : StopsWriting (given ++ blocks) e old new
+  -- Not all of a frame was written, after which as many come as decide about it, or no part is left.
+  pub record StopsInFrame (e : Error) (from : Parts R) (parts : List Part) : Type 0 where
+    pub frames : List FrameThere
+    pub are_frames : AreFrames rules.info parts frames
+    pub stops : StopsInFrames rules (first_due start) old new frames e
+    pub decided : (look_ahead ≤ length stops.ahead) ⊎ NoneLeft source before from
 
   -- No part is left, and not all of the silence at the end was written.
-  pub record StopsAtEnd (e : Error) (from : Parts R) (given : List Block) (due : Due) : Type 0 where
-    pub ends : SourceIsKnown source before → unread source from ≡ []
+  pub record StopsAtEnd (e : Error) (from : Parts R) (parts : List Part) : Type 0 where
+    pub frames : List FrameThere
+    pub are_frames : AreFrames rules.info parts frames
+    pub given : List Block
+    pub lost : List LostRange
+    pub due : Due
+    pub gives : FramesGive rules (first_due start) frames [] given lost due
+    pub none_left : NoneLeft source before from
     pub stops : StopsWriting (given ++ gap_blocks rules due (last_sample rules due)) e old new
 
   -- Why not all parts were written. The first ones were read without a failed read.
   pub record StopsRescue (e : Error) : Type 0 where
     pub parts : List Part
-    pub given : List Block
-    pub lost : List LostRange
-    pub due : Due
     pub from : Parts R
     pub more : List ℕ
     pub reads : Reads (source (parts_source before)) (source (parts_source from)) more
     pub are_parts : SourceIsKnown source before
         → AreParts rules.info start (unread source before) parts (unread source from)
-    pub gives : PartsGive rules (first_due start) parts given lost due
     pub stops : StopsAtPart e from
-        ⊎ (StopsInFrame e from given due parts
-        ⊎ (StopsAtEnd e from given due ⊎ (2 ^ 64 - 1 ≤ length parts)))
+        ⊎ (StopsInFrame e from parts
+        ⊎ (StopsAtEnd e from parts ⊎ (2 ^ 64 - 1 ≤ length parts)))
 
   abbrev pub PutPartsIsSound : Result (Unit {0}) Error → Rescue → Rescue → Type 0
   PutPartsIsSound result begun ended = OnOk result (PutsParts begun ended)

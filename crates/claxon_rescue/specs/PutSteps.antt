@@ -24,6 +24,7 @@ use Rattle.claxon_wav.specs.Convert.{HashesBlocks, PutsSamples, packed_blocks}
 use Rattle.claxon_wav.specs.DataSize.{max_data_size}
 use Rattle.claxon_rescue.specs.Losses.{HasNoted, missing_in}
 use Rattle.claxon_rescue.specs.Rescue.{FrameGives, GivesFrame, gap_blocks, gap_ranges}
+use Rattle.claxon_rescue.specs.Waiting.{waiting_frames}
 use Rattle.claxon_wav.specs.Writer.{HasRoomFor}
 use Rattle.claxon_write.specs.CountingWriter.{CountsFailedWrite}
 use Rattle.claxon_wav.specs.declared.error.Error.{Error}
@@ -65,7 +66,8 @@ pub record NeedsRoom {W : Type 0} (blocks : List Block) (file : WavWriter W) : T
 
 -- Why not all of these blocks were written: they are more than a WAV file holds, a write failed, or
 -- memory was refused for one that is larger than those before.
-abbrev pub StopsWriting : {W : Type 0} → List Block → Error → WavWriter W → WavWriter W → Type 0
+abbrev pub StopsWriting : {W : Type 0} → List Block → Error → WavWriter W → WavWriter W
+    → Type 0
 StopsWriting blocks TooLong old new =
     max_data_size < old.written + length (packed_blocks old.layout.valid_bits blocks)
 StopsWriting blocks (Output cause) old new = CountsFailedWrite old.output new.output
@@ -79,6 +81,7 @@ module _ {W : Type 0} (contents : W → Option (List ℕ)) (rules : Rules) (old 
   -- What is missing up to this sample was written and noted.
   pub record PutsGap (sample byte : ℕ) : Type 0 where
     pub same_due : new.due ≡ old.due
+    pub same_waiting : waiting_frames new.waiting ≡ waiting_frames old.waiting
     pub puts : PutsSamples contents (gap_blocks rules old.due sample) before after
     pub notes : NotesRanges (gap_ranges old.due sample byte) old.losses new.losses
     pub hashes : HashesGiven rules.info.bits_per_sample (gap_ranges old.due sample byte)
@@ -87,11 +90,12 @@ module _ {W : Type 0} (contents : W → Option (List ℕ)) (rules : Rules) (old 
   abbrev pub PutGapIsSound : ℕ → ℕ → Result (Unit {0}) Error → Type 0
   PutGapIsSound sample byte result = OnOk result (PutsGap sample byte)
 
-  -- What the frame gives was written and noted.
+  -- What the frame gives was written and noted. The frames that wait come after it.
   pub record PutsFrame (there : FrameThere) : Type 0 where
     pub blocks : List Block
     pub lost : List LostRange
-    pub gives : FrameGives rules old.due there blocks lost new.due
+    pub gives : FrameGives rules old.due there (waiting_frames old.waiting) blocks lost new.due
+    pub same_waiting : waiting_frames new.waiting ≡ waiting_frames old.waiting
     pub puts : PutsSamples contents blocks before after
     pub notes : NotesRanges lost old.losses new.losses
     pub hashes : HashesGiven rules.info.bits_per_sample lost blocks old.md5 new.md5
@@ -104,11 +108,11 @@ module _ {W : Type 0} (rules : Rules) (due : Due) (before after : WavWriter W) w
   PutGapFaultIsSound sample result =
       IfErr result (λ e. StopsWriting (gap_blocks rules due sample) e before after)
 
-  -- Not all of what the frame gives was written.
-  abbrev pub StopsAtFrame : FrameThere → Error → Type 0
-  StopsAtFrame there e =
+  -- Not all of what the frame gives was written, after which these come.
+  abbrev pub StopsAtFrame : FrameThere → List FrameThere → Error → Type 0
+  StopsAtFrame there ahead e =
       (blocks : List Block) × (lost : List LostRange) × (next : Due)
-      × GivesFrame rules due there blocks lost next × StopsWriting blocks e before after
+      × GivesFrame rules due there ahead blocks lost next × StopsWriting blocks e before after
 
-  abbrev pub PutFrameFaultIsSound : FrameThere → Result (Unit {0}) Error → Type 0
-  PutFrameFaultIsSound there result = IfErr result (StopsAtFrame there)
+  abbrev pub PutFrameFaultIsSound : FrameThere → List FrameThere → Result (Unit {0}) Error → Type 0
+  PutFrameFaultIsSound there ahead result = IfErr result (StopsAtFrame there ahead)

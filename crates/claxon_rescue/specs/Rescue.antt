@@ -25,13 +25,12 @@ use Rattle.std.specs.Prelude.{
 }
 use Rattle.std.specs.Global.{Global}
 use Rattle.claxon.specs.Bits.{FitsIn}
-use Rattle.claxon.specs.DecodedFrame.{decoded_view}
 use Rattle.claxon.specs.DecodedFrames.{DecodedFrame}
 use Rattle.claxon.specs.Frame.{Block}
 use Rattle.claxon.specs.FrameReader.{block_view}
 use Rattle.claxon.specs.StreamInfos.{StreamInfo}
 use Rattle.claxon_recovery.specs.declared.part.FrameThere.{FrameThere}
-use Rattle.claxon_rescue.specs.Times.{IsInOrder, due_after, frame_time, left_out}
+use Rattle.claxon_rescue.specs.Times.{IsKept, due_after, frame_time, left_out}
 use Rattle.claxon_rescue.specs.declared.due.Due.{Due}
 use Rattle.claxon_rescue.specs.declared.due.Rules.{Rules}
 use Rattle.claxon_rescue.specs.declared.losses.LossKind.TheVariants.{Missing}
@@ -51,6 +50,10 @@ IsOfStream info frame =
     (length frame.block.channels ≡ info.channels)
     × (rate_or frame.info.sample_rate info.sample_rate ≡ info.sample_rate)
     × All (All (FitsIn info.bits_per_sample)) frame.block.channels
+
+-- Each of these does so.
+abbrev pub AreOfStream : StreamInfo → List FrameThere → Type 0
+AreOfStream info frames = All (λ (there : FrameThere). IsOfStream info there.frame) frames
 
 -- ---- samples that are lost
 
@@ -80,14 +83,13 @@ abbrev pub gap_ranges : Due → ℕ → ℕ → List LostRange
 gap_ranges due sample byte =
     if nat_lt due.sample sample then missing_range due sample byte ∷ [] else []
 
--- ---- what parts give: blocks that are written, ranges that are lost, and what is due then
+-- ---- what frames give: blocks that are written, ranges that are lost, and what is due then
 
 -- The frame's samples are written, after silence for those that are missing before it.
-pub record GivesFrame (rules : Rules) (due : Due) (there : FrameThere) (blocks : List Block)
-    (lost : List LostRange) (next : Due) : Type 0 where
-  pub of_stream : IsOfStream rules.info there.frame
+pub record GivesFrame (rules : Rules) (due : Due) (there : FrameThere) (ahead : List FrameThere)
+    (blocks : List Block) (lost : List LostRange) (next : Due) : Type 0 where
   pub gap : ℕ
-  pub in_order : IsInOrder rules due (decoded_view there.frame)
+  pub kept : IsKept rules due there ahead
   pub time_is : frame_time rules due there.frame.info ≡ due.sample + gap
   pub blocks_are : blocks ≡ gap_blocks rules due (due.sample + gap)
       ++ block_view there.frame.block ∷ []
@@ -100,19 +102,17 @@ pub record GivesNothing (due : Due) (blocks : List Block) (next : Due) : Type 0 
   pub same : next ≡ due
 
 -- The frame is left out.
-pub record LeavesOut (rules : Rules) (due : Due) (there : FrameThere) (lost : List LostRange) :
-    Type 0 where
-  pub of_stream : IsOfStream rules.info there.frame
-  pub not_in_order : IsInOrder rules due (decoded_view there.frame) → ⊥
+pub record LeavesOut (rules : Rules) (due : Due) (there : FrameThere) (ahead : List FrameThere)
+    (lost : List LostRange) : Type 0 where
+  pub not_kept : IsKept rules due there ahead → ⊥
   pub lost_is : lost ≡ left_out rules due there ∷ []
 
--- A frame is written, or left out; or it isn't one of the stream.
-abbrev pub FrameGives : Rules → Due → FrameThere → List Block → List LostRange → Due → Type 0
-FrameGives rules due there blocks lost next =
-    GivesFrame rules due there blocks lost next
-    ⊎ (GivesNothing due blocks next
-    × (LeavesOut rules due there lost
-    ⊎ ((IsOfStream rules.info there.frame → ⊥) × (lost ≡ []))))
+-- What a frame of the stream gives, after which these come.
+abbrev pub FrameGives : Rules → Due → FrameThere → List FrameThere → List Block → List LostRange
+    → Due → Type 0
+FrameGives rules due there ahead blocks lost next =
+    GivesFrame rules due there ahead blocks lost next
+    ⊎ (GivesNothing due blocks next × LeavesOut rules due there ahead lost)
 
 -- ---- the end
 

@@ -11,11 +11,18 @@ use Rattle.claxon_blocks.specs.declared.md5_verdict.Md5Verdict.TheVariants.{NotC
 use Rattle.claxon_recovery.specs.Parts.{SourceIsKnown, unread}
 use Rattle.claxon_recovery.specs.declared.part.Part.{Part}
 use Rattle.claxon_recovery.specs.declared.parts.Parts.{Parts}
-use Rattle.claxon_wav.specs.Conversion.{CorrectsHeader, IsVerdictOn, first_size, planned_bytes, total_duration}
+use Rattle.claxon_wav.specs.Conversion.{
+  CorrectsHeader,
+  IsVerdictOn,
+  first_size,
+  planned_bytes,
+  total_duration,
+}
 use Rattle.claxon_wav.specs.DataSize.{max_data_size}
 use Rattle.claxon_rescue.specs.Losses.{HasNoted, missing_in}
 use Rattle.claxon_rescue.specs.RescuedStream.{AreParts, Rescues}
 use Rattle.claxon_rescue.specs.Times.{first_due}
+use Rattle.claxon_rescue.specs.Waiting.{waiting_frames}
 use Rattle.claxon_wav.specs.WaveFile.{block_align, wave_file}
 use Rattle.claxon_wav.specs.declared.header.Layout.{Layout}
 use Rattle.claxon_wav.specs.declared.plan.Plan.{Plan}
@@ -42,6 +49,7 @@ pub record IsPlanFor (info : StreamInfo) (plan : Plan) : Type 0 where
 -- Nothing was rescued so far.
 pub record BeginsRescue (plan : Plan) (options : RescueOptions) (rescue : Rescue) : Type 0 where
   pub due_is : rescue.due ≡ first_due options.start
+  pub none_wait : waiting_frames rescue.waiting ≡ []
   pub noted : HasNoted options.max_ranges [] rescue.losses
   pub hashed : HasHashedBytes plan.computes_md5 [] rescue.md5
 

@@ -11,13 +11,18 @@ use Rattle.std.specs.Prelude.{
   ◌^◌,
   ◌<◌,
   ◌≤◌,
+  ◌&&◌,
+  Bool,
   if◌then◌else◌,
   min,
+  nat_le,
   nat_lt,
+  List,
   Option,
   None,
   Some,
 }
+use Rattle.std.specs.List.{count_by}
 use Rattle.claxon.specs.BlockInfos.{BlockInfo}
 use Rattle.claxon.specs.DecodedFrame.{FrameValue, decoded_view}
 use Rattle.claxon.specs.Streams.{duration_of}
@@ -43,7 +48,7 @@ frame_time rules due header =
 abbrev pub frame_duration : FrameValue → ℕ
 frame_duration frame = duration_of frame.block.channels
 
--- A frame is written if it goes on where the samples so far end; or if it begins later, and ends
+-- A frame is in order if it goes on where the samples so far end; or if it begins later, and ends
 -- within the limit.
 abbrev pub IsInOrder : Rules → Due → FrameValue → Type 0
 IsInOrder rules due frame =
@@ -52,11 +57,48 @@ IsInOrder rules due frame =
     × (frame_time rules due frame.info + frame_duration frame ≤ rules.limit)))
     × (frame_time rules due frame.info + frame_duration frame < 2 ^ 64)
 
--- So many samples are lost before the frame, or it isn't written.
+-- So many samples are lost before the frame, or it isn't in order.
 abbrev pub IsGapBefore : Rules → Due → FrameValue → Option ℕ → Type 0
 IsGapBefore rules due frame None = IsInOrder rules due frame → ⊥
 IsGapBefore rules due frame (Some gap) =
     IsInOrder rules due frame × (frame_time rules due frame.info ≡ due.sample + gap)
+
+-- ---- frames that stand ahead of others
+
+-- whether a frame begins before this sample, and not before what is due
+abbrev pub begins_before : Rules → Due → ℕ → FrameThere → Bool
+begins_before rules due sample there =
+    nat_le due.sample (frame_time rules due there.frame.info)
+    && nat_lt (frame_time rules due there.frame.info) sample
+
+-- whether a frame begins after this sample, and ends within the limit
+abbrev pub begins_after : Rules → Due → ℕ → FrameThere → Bool
+begins_after rules due sample there =
+    nat_lt sample (frame_time rules due there.frame.info)
+    && nat_le (frame_time rules due there.frame.info + frame_duration (decoded_view there.frame))
+    rules.limit
+
+-- No more of the frames that come next begin before this sample than after it.
+abbrev pub FewBegin : Rules → Due → ℕ → List FrameThere → Type 0
+FewBegin rules due sample ahead =
+    count_by (begins_before rules due sample) ahead
+    ≤ count_by (begins_after rules due sample) ahead
+
+-- A frame is written if it is in order; and if it begins later than what is due, no more of the
+-- frames that come next begin before it than after it.
+abbrev pub IsKept : Rules → Due → FrameThere → List FrameThere → Type 0
+IsKept rules due there ahead =
+    IsInOrder rules due (decoded_view there.frame)
+    × ((frame_time rules due there.frame.info ≡ due.sample)
+    ⊎ FewBegin rules due (frame_time rules due there.frame.info) ahead)
+
+-- So many samples are lost before the frame, or it isn't written.
+abbrev pub IsGapAmong : Rules → Due → FrameThere → List FrameThere → Option ℕ → Type 0
+IsGapAmong rules due there ahead None = IsKept rules due there ahead → ⊥
+IsGapAmong rules due there ahead (Some gap) =
+    IsKept rules due there ahead × (frame_time rules due there.frame.info ≡ due.sample + gap)
+
+-- ---- numbers that are told
 
 -- a time, if it is below 2^64
 abbrev pub time_below : ℕ → Option ℕ

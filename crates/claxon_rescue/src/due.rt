@@ -31,8 +31,12 @@ pub(crate) struct Due {
 }
 
 impl Due {
+    ghost use Rattle.std.specs.List.{count_by};
     ghost use Rattle.claxon_rescue.specs.Times.{
+      IsGapAmong,
       IsGapBefore,
+      begins_after,
+      begins_before,
       due_after,
       first_due,
       frame_time,
@@ -51,9 +55,70 @@ impl Due {
         }
     }
 
-    /// How many samples are lost before a frame; None if it isn't written: it begins before the samples so far end, or it begins
-    /// later and ends after the limit.
-    pub fn gap_before(self, rules: &Rules, there: &FrameThere) -> Option<u64>
+    /// How many samples are lost before a frame which these frames come after; None if it isn't written: it isn't in order, or
+    /// it begins later than what is due, and more of the others begin before it than after it.
+    pub fn gap_among(self, rules: &Rules, there: &FrameThere, ahead: &[FrameThere]) -> Option<u64>
+        ensures is_gap_among { IsGapAmong rules.now self there.now ahead.now result }
+    {
+        let gap = self.gap_before(rules, there)?;
+        let sample = self.sample + gap;
+        if gap > 0
+            && self.count_before(rules, sample, ahead) > self.count_after(rules, sample, ahead)
+        {
+            return None;
+        }
+        Some(gap)
+    }
+
+    // How many frames begin before this sample, and not before what is due.
+    fn count_before(self, rules: &Rules, sample: u64, ahead: &[FrameThere]) -> usize
+        ensures { result ≡ count_by (begins_before rules.now self sample) ahead.now }
+    {
+        let mut count = 0;
+        for i in 0..ahead.len() {
+            if self.begins_before(rules, sample, &ahead[i]) {
+                count += 1;
+            }
+        }
+        count
+    }
+
+    // How many frames begin after this sample, and end within the limit.
+    fn count_after(self, rules: &Rules, sample: u64, ahead: &[FrameThere]) -> usize
+        ensures { result ≡ count_by (begins_after rules.now self sample) ahead.now }
+    {
+        let mut count = 0;
+        for i in 0..ahead.len() {
+            if self.begins_after(rules, sample, &ahead[i]) {
+                count += 1;
+            }
+        }
+        count
+    }
+
+    fn begins_before(self, rules: &Rules, sample: u64, there: &FrameThere) -> bool
+        ensures { result ≡ begins_before rules.now self sample there.now }
+    {
+        match self.time(rules, &there.frame.info) {
+            Some(time) => self.sample <= time && time < sample,
+            None => false,
+        }
+    }
+
+    fn begins_after(self, rules: &Rules, sample: u64, there: &FrameThere) -> bool
+        ensures { result ≡ begins_after rules.now self sample there.now }
+    {
+        let limit = rules.limit;
+        let duration = u64::from(there.frame.block.duration());
+        match self.time(rules, &there.frame.info) {
+            Some(time) => sample < time && duration <= limit && time <= limit - duration,
+            None => false,
+        }
+    }
+
+    // How many samples are lost before a frame; None if it isn't in order: it begins before the samples so far end, or it begins
+    // later and ends after the limit.
+    fn gap_before(self, rules: &Rules, there: &FrameThere) -> Option<u64>
         ensures is_gap_before { IsGapBefore rules.now self (decoded_view there.now.frame) result }
     {
         let time = self.time(rules, &there.frame.info)?;

@@ -5,6 +5,7 @@ mod due;
 mod losses;
 mod parts;
 mod rescue;
+mod waiting;
 
 pub use losses::{LossKind, Losses, LostRange};
 pub use rescue::{RescueOptions, Rescued, rescue_file};

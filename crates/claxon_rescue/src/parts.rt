@@ -1,12 +1,13 @@
 //! The parts of a damaged stream, written one after another.
-ghost use Rattle.std.specs.Prelude.{◌≡◌, ◌≤◌, ◌↔◌, IsTrue, Some};
+ghost use Rattle.std.specs.Prelude.{◌≡◌, ◌≤◌, ◌↔◌, [], IsTrue, Some};
 ghost use Rattle.claxon.specs.ShownHead.{HasBitDepth};
 ghost use Rattle.claxon_blocks.specs.HashBlock.{HashesToo};
 ghost use Rattle.claxon_recovery.specs.Parts.{after_part};
-ghost use Rattle.claxon_rescue.specs.Rescue.{IsOfStream};
+ghost use Rattle.claxon_rescue.specs.Rescue.{AreOfStream, IsOfStream};
 
 use crate::due::{Due, Rules};
 use crate::losses::{LossKind, Losses, LostRange};
+use crate::waiting::Waiting;
 use claxon::Block;
 use claxon::frame::DecodedFrame;
 use claxon::input::ReadBytes;
@@ -24,6 +25,8 @@ use std::io::{Seek, Write};
 pub(crate) struct Rescue {
     /// What is due next.
     pub due: Due,
+    /// The frames of the stream that come next.
+    pub waiting: Waiting,
     /// What is lost.
     pub losses: Losses,
     /// The hasher of the samples; none after the first that are missing.
@@ -34,10 +37,13 @@ impl Rescue {
     ghost use Rattle.claxon_command_line.specs.Progress.{SameErrors, StaysQuiet};
     ghost use Rattle.claxon_recovery.specs.Parts.{parts_info, parts_position};
     ghost use Rattle.claxon_rescue.specs.PutParts.{
+      MakeRoomIsSound,
       PutPartFaultIsSound,
       PutPartIsSound,
       PutPartsFaultIsSound,
       PutPartsIsSound,
+      PutWaitingFaultIsSound,
+      PutWaitingIsSound,
     };
     ghost use Rattle.claxon_rescue.specs.PutSteps.{
       IsFileOf,
@@ -49,15 +55,12 @@ impl Rescue {
     ghost use Rattle.claxon_rescue.specs.Rescue.{last_sample};
     ghost use Rattle.claxon_rescue.specs.RescueEnds.{WriteFaultIsSound, WriteIsSound};
     ghost use Rattle.claxon_rescue.specs.Times.{first_due};
+    ghost use Rattle.claxon_rescue.specs.Waiting.{waiting_frames};
     ghost use Rattle.claxon_wav.specs.Writer.{KeepsRoom, SameHeader, SameOutput, Unflushed};
 
-    /// Writes the samples of all frames of a stream that begins at this position, and silence where samples are lost.
-    ///
-    /// # Errors
-    ///
-    /// Those of `Parts::next_part`, `WavWriter::put_block` and `WavWriter::put_silence`; `Unsupported` if there are 2^64 - 1
-    /// parts.
-    pub fn put_parts<R: ReadBytes, W: Write, E: Write>(
+    // Writes the samples of all frames of a stream that begins at this position, and silence where samples are lost. The errors
+    // are those of `Parts::next_part`, `WavWriter::put_block` and `put_silence`, and `Unsupported` for 2^64 - 1 parts.
+    fn put_parts<R: ReadBytes, W: Write, E: Write>(
         &mut self,
         parts: &mut Parts<R>,
         start: u64,
@@ -70,6 +73,7 @@ impl Rescue {
         requires same_info { parts_info parts.old ≡ rules.now.info }
         requires at_start { parts_position parts.old ≡ start }
         requires first { self.old.due ≡ first_due start }
+        requires none_waits { waiting_frames self.old.waiting ≡ [] }
         ensures same_output { SameOutput wav.old wav.new }
         ensures is_sound { PutPartsIsSound R.source W.contents rules.now start parts.old parts.new
             wav.old wav.new result self.old self.new }
@@ -81,12 +85,20 @@ impl Rescue {
     {
         let mut end = start;
         for _ in 0..u64::MAX {
-            let Some(part) = parts.next_part()? else {
+            let next = match parts.next_part() {
+                Ok(next) => next,
+                Err(error) => {
+                    let _ = self.put_waiting(rules, wav);
+                    return Err(Error::from(error));
+                }
+            };
+            let Some(part) = next else {
+                self.put_waiting(rules, wav)?;
                 return self.put_rest(rules, end, wav);
             };
-            self.put_part(rules, &part, wav)?;
-            progress.show(self.due.sample);
             end = end_of(&part);
+            self.put_part(rules, part, wav)?;
+            progress.show(self.due.sample);
         }
         Err(Error::from(too_many()))
     }
@@ -97,7 +109,7 @@ impl Rescue {
     /// # Errors
     ///
     /// The first one: that of `put_parts`, or of `WavWriter::finish`.
-    pub fn write<R: ReadBytes, W: Write + Seek, E: Write>(
+    pub(crate) fn write<R: ReadBytes, W: Write + Seek, E: Write>(
         &mut self,
         parts: &mut Parts<R>,
         start: u64,
@@ -110,6 +122,7 @@ impl Rescue {
         requires same_info { parts_info parts.old ≡ rules.now.info }
         requires at_start { parts_position parts.old ≡ start }
         requires first { self.old.due ≡ first_due start }
+        requires none_waits { waiting_frames self.old.waiting ≡ [] }
         ensures same_output { SameOutput wav.old wav.new }
         ensures is_sound { WriteIsSound R.source W.contents rules.now start parts.old parts.new
             wav.old wav.new W.stream_position result self.old self.new }
@@ -124,30 +137,77 @@ impl Rescue {
         finished
     }
 
-    // Writes what a part gives.
+    // The part's frame waits then, if it has one of the stream.
     fn put_part<W: Write>(
         &mut self,
         rules: &Rules,
-        part: &Part,
+        part: Part,
         wav: &mut WavWriter<'_, W>,
     ) -> Result<()>
         requires has_bit_depth { HasBitDepth rules.now.info }
         requires is_file_of { IsFileOf rules.now.info wav.old }
+        requires of_stream { AreOfStream rules.now.info (waiting_frames self.old.waiting) }
         ensures same_output { SameOutput wav.old wav.new }
         ensures is_sound { PutPartIsSound W.contents rules.now self.old self.new wav.old wav.new
-            part.now result }
-        ensures fault_is_sound { PutPartFaultIsSound rules.now self.old.due wav.old wav.new part.now
-            result }
+            part result }
+        ensures fault_is_sound { PutPartFaultIsSound rules.now self.old.due wav.old wav.new
+            (waiting_frames self.old.waiting) result }
         ensures same_header { SameHeader wav.old wav.new }
         ensures keeps_room { KeepsRoom wav.old wav.new }
     {
-        match part {
-            Part::Frame(there) => self.put_frame(rules, there, wav),
-            Part::Damage(_) => Ok(()),
+        let Part::Frame(there) = part else {
+            return Ok(());
+        };
+        if !is_of_stream(&rules.info, &there.frame) {
+            return Ok(());
+        }
+        self.make_room(rules, wav)?;
+        self.waiting.push(there);
+        Ok(())
+    }
+
+    // Writes what the first frame that waits gives, if all is known that decides about it.
+    fn make_room<W: Write>(&mut self, rules: &Rules, wav: &mut WavWriter<'_, W>) -> Result<()>
+        requires has_bit_depth { HasBitDepth rules.now.info }
+        requires is_file_of { IsFileOf rules.now.info wav.old }
+        requires of_stream { AreOfStream rules.now.info (waiting_frames self.old.waiting) }
+        ensures same_output { SameOutput wav.old wav.new }
+        ensures is_sound { MakeRoomIsSound W.contents rules.now self.old self.new wav.old wav.new
+            result }
+        ensures fault_is_sound { PutPartFaultIsSound rules.now self.old.due wav.old wav.new
+            (waiting_frames self.old.waiting) result }
+        ensures same_header { SameHeader wav.old wav.new }
+        ensures keeps_room { KeepsRoom wav.old wav.new }
+    {
+        if !self.waiting.is_full() {
+            return Ok(());
+        }
+        match self.waiting.take_first() {
+            Some(there) => self.put_frame(rules, &there, wav),
+            None => Ok(()),
         }
     }
 
-    // Writes a frame's samples, if it is one of the stream and in order.
+    // Writes what all frames that wait give, after which none come.
+    fn put_waiting<W: Write>(&mut self, rules: &Rules, wav: &mut WavWriter<'_, W>) -> Result<()>
+        requires has_bit_depth { HasBitDepth rules.now.info }
+        requires is_file_of { IsFileOf rules.now.info wav.old }
+        requires of_stream { AreOfStream rules.now.info (waiting_frames self.old.waiting) }
+        ensures same_output { SameOutput wav.old wav.new }
+        ensures is_sound { PutWaitingIsSound W.contents rules.now self.old self.new wav.old wav.new
+            result }
+        ensures fault_is_sound { PutWaitingFaultIsSound rules.now self.old.due wav.old wav.new
+            (waiting_frames self.old.waiting) result }
+        ensures same_header { SameHeader wav.old wav.new }
+        ensures keeps_room { KeepsRoom wav.old wav.new }
+    {
+        while let Some(there) = self.waiting.take_first() {
+            self.put_frame(rules, &there, wav)?;
+        }
+        Ok(())
+    }
+
+    // Writes what a frame of the stream gives. The frames that wait come after it.
     fn put_frame<W: Write>(
         &mut self,
         rules: &Rules,
@@ -156,18 +216,16 @@ impl Rescue {
     ) -> Result<()>
         requires has_bit_depth { HasBitDepth rules.now.info }
         requires is_file_of { IsFileOf rules.now.info wav.old }
+        requires of_stream { IsOfStream rules.now.info there.now.frame }
         ensures same_output { SameOutput wav.old wav.new }
         ensures is_sound { PutFrameIsSound W.contents rules.now self.old self.new wav.old wav.new
             there.now result }
         ensures fault_is_sound { PutFrameFaultIsSound rules.now self.old.due wav.old wav.new there.now
-            result }
+            (waiting_frames self.old.waiting) result }
         ensures same_header { SameHeader wav.old wav.new }
         ensures keeps_room { KeepsRoom wav.old wav.new }
     {
-        if !is_of_stream(&rules.info, &there.frame) {
-            return Ok(());
-        }
-        let Some(gap) = self.due.gap_before(rules, there) else {
+        let Some(gap) = self.due.gap_among(rules, there, self.waiting.frames()) else {
             self.losses.note(self.due.left_out(rules, there));
             return Ok(());
         };

@@ -15,6 +15,7 @@ ghost use Rattle.claxon_rescue.specs.RescueFile.{
 use crate::due::{Due, Rules};
 use crate::losses::Losses;
 use crate::parts::Rescue;
+use crate::waiting::Waiting;
 use claxon::input::ReadBytes;
 use claxon::metadata::StreamInfo;
 use claxon_blocks::md5_verdict::judge_md5;
@@ -49,9 +50,9 @@ pub struct Rescued {
 ///
 /// # Errors
 ///
-/// Those of `Parts::next_part`, of `WavWriter::put_block`, `put_silence` and `finish`, and of a write of the header; `OutOfMemory`
-/// where memory for the ranges is refused. After an error of the input the samples before it are in a valid file too, unless a
-/// call of the output fails.
+/// Those of `Parts::next_part`, of `WavWriter::put_block`, `put_silence` and `finish`, and of a write of the header;
+/// `OutOfMemory` where memory for the ranges or the next frames is refused. After an error of the input the samples before
+/// it are in a valid file too, unless a call of the output fails.
 pub fn rescue_file<R: ReadBytes, W: Write + Seek, E: Write>(
     alloc: Global,
     parts: &mut Parts<R>,
@@ -98,6 +99,7 @@ fn new_rescue(alloc: Global, plan: Plan, options: RescueOptions) -> Result<Rescu
 {
     Ok(Rescue {
         due: Due::new(options.start),
+        waiting: Waiting::new(alloc)?,
         losses: Losses::new(alloc, options.max_ranges)?,
         md5: new_hasher(plan.computes_md5),
     })
@@ -116,6 +118,7 @@ fn rescued_of(rescue: Rescue, samples: u32, info: &StreamInfo) -> Rescued
 {
     let Rescue {
         due: _,
+        waiting: _,
         losses,
         md5,
     } = rescue;

@@ -6,6 +6,8 @@ mod failing;
 #[cfg(test)]
 mod files;
 #[cfg(test)]
+mod order;
+#[cfg(test)]
 mod rows;
 #[cfg(test)]
 mod silence;

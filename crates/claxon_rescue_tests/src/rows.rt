@@ -32,7 +32,8 @@ const FAR: &[u8] = &[0xff, 0xf8, 0x69, 0x02, 0x64, 0x0f, 0x16, 0x00, 0x09, 0xe2,
 #[rattlefmt::skip]
 const OTHER: &[u8] = &[0xff, 0xf8, 0x69, 0x12, 0x01, 0x0f, 0x00, 0x00, 0x09, 0x00, 0x09, 0xa8, 0xdf];
 
-fn missing(samples: u64, end: u64, bytes: u64, end_byte: u64) -> LostRange {
+/// Samples that no whole frame has.
+pub fn missing(samples: u64, end: u64, bytes: u64, end_byte: u64) -> LostRange {
     LostRange {
         kind: LossKind::Missing,
         start_sample: samples,
@@ -42,7 +43,8 @@ fn missing(samples: u64, end: u64, bytes: u64, end_byte: u64) -> LostRange {
     }
 }
 
-fn left_out(samples: u64, end: u64, bytes: u64, end_byte: u64) -> LostRange {
+/// Samples of a frame that isn't written.
+pub fn left_out(samples: u64, end: u64, bytes: u64, end_byte: u64) -> LostRange {
     LostRange {
         kind: LossKind::LeftOut,
         start_sample: samples,
@@ -52,16 +54,15 @@ fn left_out(samples: u64, end: u64, bytes: u64, end_byte: u64) -> LostRange {
     }
 }
 
-// What is wanted of a stream: the bytes of the samples of each of its three frames, those that are lost, and how many are missing.
+/// What is wanted of a stream: the samples that are lost, and how many are missing.
 #[derive(Clone, Copy)]
-struct Wanted<'a> {
-    values: [u8; 3],
-    lost: &'a [LostRange],
-    missing: u64,
+pub struct Wanted<'a> {
+    pub lost: &'a [LostRange],
+    pub missing: u64,
 }
 
 // The samples of blocks, each of one value. Where gaps aren't filled, silence is left out.
-fn samples_of(alloc: Global, values: &[u8; 3], fills_gaps: bool) -> Result<Vec<u8>> {
+fn samples_of(alloc: Global, values: &[u8], fills_gaps: bool) -> Result<Vec<u8>> {
     let mut samples = Vec::new(alloc);
     for value in values {
         if fills_gaps || *value != 128 {
@@ -71,10 +72,17 @@ fn samples_of(alloc: Global, values: &[u8; 3], fills_gaps: bool) -> Result<Vec<u
     Ok(samples)
 }
 
-fn is_rescued(alloc: Global, stream: &[u8], fills_gaps: bool, wanted: &Wanted<'_>) -> Result<bool> {
+/// Whether that is rescued of a stream, and the samples of each of its frames are of these bytes.
+pub fn is_rescued(
+    alloc: Global,
+    stream: &[u8],
+    fills_gaps: bool,
+    values: &[u8],
+    wanted: &Wanted<'_>,
+) -> Result<bool> {
     let mut file = Vec::new(alloc);
     let rescued = rescue(alloc, Cursor::new(stream), fills_gaps, &mut file)?;
-    let samples = samples_of(alloc, &wanted.values, fills_gaps)?;
+    let samples = samples_of(alloc, values, fills_gaps)?;
     let is_right = matches!(rescued.conversion.md5, Md5Verdict::Right);
     let is_judged = is_right || matches!(rescued.conversion.md5, Md5Verdict::NotComputed);
     Ok(
@@ -100,7 +108,7 @@ fn rescued_streams(rt: HostRuntime) -> Result<()> {
         (&[A, B], [129, 130, 128], &[missing(32, 48, 64, 64)], 16),
         (&[B, C], [128, 130, 131], &[missing(0, 16, 42, 42)], 16),
         // Two are swapped, one is repeated.
-        (&[A, C, B], [129, 128, 131], &[missing(16, 32, 53, 53), left_out(16, 32, 64, 75)], 16),
+        (&[A, C, B], [129, 130, 128], &[left_out(32, 48, 53, 64), missing(32, 48, 75, 75)], 16),
         (&[A, A, B, C], [129, 130, 131], &[left_out(0, 16, 53, 64)], 0),
         // Bytes were put in, and a frame of another stream; one is too far away.
         (&[A, &[0; 5], B, OTHER, C], [129, 130, 131], &[], 0),
@@ -110,13 +118,10 @@ fn rescued_streams(rt: HostRuntime) -> Result<()> {
     ];
     for (pieces, values, lost, count) in &rows {
         let stream = stream_of(alloc, &HEAD, pieces)?;
-        let wanted = Wanted {
-            values: *values,
-            lost,
-            missing: *count,
-        };
+        let missing = *count;
+        let wanted = Wanted { lost, missing };
         for fills_gaps in [true, false] {
-            assert!(rt; is_rescued(alloc, stream.as_slice(), fills_gaps, &wanted)?);
+            assert!(rt; is_rescued(alloc, stream.as_slice(), fills_gaps, values, &wanted)?);
         }
     }
     Ok(())

@@ -34,7 +34,7 @@ use Rattle.claxon_md5.specs.declared.Md5.{Md5}
 use Rattle.claxon_write.proofs.Counts.{flushed_after, none_failed, none_failed_both}
 use Rattle.claxon_blocks.proofs.BlockReads.{block_io, io_not_fault}
 use Rattle.claxon_blocks.proofs.FirstBytes.{fault_not_memory, refused}
-use Rattle.claxon_wav.specs.Convert.{CanBeConverted, CanBeConvertedTo, CanBePut, Converts, ConvertsToStream, ExplainsError, HashesBlocks, HoldsFile, HoldsOther, HoldsUnknown, ConvertIsExcused, IsErrorAt, IsWholeStream, OutputFailed, PutsAndHashes, PutsBefore, PutsBlocks, PutsSamples, StopsAtBlock, StopsPutting, OutputWriteFailed, packed_blocks}
+use Rattle.claxon_wav.specs.Convert.{CanBeConverted, CanBeConvertedTo, CanBePut, Converts, ConvertsToStream, ExplainsError, ExplainsInput, HashesBlocks, HoldsFile, HoldsOther, HoldsUnknown, ConvertIsExcused, IsErrorAt, IsWholeStream, OutputFailed, PutsAndHashes, PutsBefore, PutsBlocks, PutsSamples, StopsAtBlock, StopsPutting, OutputWriteFailed, packed_blocks}
 use Rattle.claxon_blocks.specs.Frames.{Is32BitFault}
 use Rattle.claxon_wav.specs.Samples.{bytes_of_sample, packed_block, packed_samples, shifted_sample, silence}
 use Rattle.claxon_wav.specs.Conversion.{IsVerdictOn}
@@ -297,6 +297,22 @@ end_explained stream a b x y z (Err WideSample) none f = absurd f.0
 end_explained stream a b x y z (Err Unsupported32Bit) none f = absurd f.0
 end_explained stream a b x y z (Err SameFile) none f = f.0
 end_explained stream a b x y z (Err Exists) none f = f.0
+
+-- an error of a conversion says so much of the input
+input_explained_there : (stream : Option StreamFormat) (a b : State ℕ) {W : Type 0} (x z : WavWriter W) (e : Error) → ExplainsError stream a b x z e → ExplainsInput stream a b x.layout x.written e
+input_explained_there stream a b x z (Claxon cause) h = h
+input_explained_there stream a b x z (Output cause) h = tt
+input_explained_there stream a b x z TooLong h = h
+input_explained_there stream a b x z OtherChannels h = h
+input_explained_there stream a b x z WideSample h = h
+input_explained_there stream a b x z Unsupported32Bit h = h
+input_explained_there stream a b x z SameFile h = h
+input_explained_there stream a b x z Exists h = h
+
+-- of a file of this layout that begins there
+pub input_explained : (stream : Option StreamFormat) (a b : State ℕ) {W : Type 0} (x z : WavWriter W) (layout : Layout) → x.layout ≡ layout → x.written ≡ 0 → (e : Error) → ExplainsError stream a b x z e → ExplainsInput stream a b layout 0 e
+input_explained stream a b x z layout same none e h =
+    subst (λ (l : Layout). ExplainsInput stream a b l 0 e) same (subst (λ (n : ℕ). ExplainsInput stream a b x.layout n e) none (input_explained_there stream a b x z e h))
 
 -- ---- completeness
 

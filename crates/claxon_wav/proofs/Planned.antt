@@ -75,3 +75,8 @@ with_header h more = (h.0, h.1, more h.0 h.2)
 pub none_begun : {W : Type 0} (contents : W → Option (List ℕ)) (announced : Option ℕ) (old new : WavWriter W) → BeginsAs contents announced old new → new.written ≡ 0
 none_begun contents None old new begins = begins.none_so_far
 none_begun contents (Some n) old new begins = begins.writes.none_so_far
+
+-- the layout stays
+pub same_layout_begun : {W : Type 0} (contents : W → Option (List ℕ)) (announced : Option ℕ) (old new : WavWriter W) → BeginsAs contents announced old new → new.layout ≡ old.layout
+same_layout_begun contents None old new begins = begins.layout_is
+same_layout_begun contents (Some n) old new begins = begins.writes.layout_is

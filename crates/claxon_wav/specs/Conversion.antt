@@ -4,6 +4,7 @@ use Rattle.std.specs.Prelude.{
   ◌≢◌,
   ℕ,
   Bool,
+  IfErr,
   IfOk,
   IfSome,
   List,
@@ -30,7 +31,7 @@ use Rattle.claxon.specs.Streams.{duration_of}
 use Rattle.claxon.specs.declared.reader.FlacReader.{FlacReader}
 use Rattle.claxon_md5.specs.WholeBytes.{whole_bytes_of_samples}
 use Rattle.claxon_write.specs.WriteSamples.{flac_stream}
-use Rattle.claxon_wav.specs.Convert.{IsWholeStream, packed_blocks}
+use Rattle.claxon_wav.specs.Convert.{ExplainsInput, IsWholeStream, packed_blocks}
 use Rattle.claxon_wav.specs.WaveFile.{IsHeader, pad, unknown_header, wave_file}
 use Rattle.claxon_blocks.specs.Md5Verdict.{IsMd5Verdict}
 use Rattle.claxon_blocks.specs.declared.md5_verdict.Md5Verdict.{Md5Verdict}
@@ -63,6 +64,14 @@ ConversionIsSound computes_md5 remaining flac r =
     × IsWholeStream (flac_stream flac) blocks (flac_bytes remaining flac)
     × (conversion.samples ≡ total_duration blocks)
     × IsVerdictOn computes_md5 (info_view (flac_streaminfo flac)) blocks conversion.md5)
+
+-- An Err says why the stream wasn't converted to a file of this layout; `OutOfMemory`, and a failed
+-- call of the output, say nothing of it.
+abbrev pub ConversionFaultIsSound : {R A : Type 0} → Layout → (R → Option (List ℕ))
+    → Result Conversion Error → FlacReader R A → FlacReader R A → Type 0
+ConversionFaultIsSound layout remaining r before after =
+    IfErr r (ExplainsInput (flac_stream before) (flac_bytes remaining before)
+    (flac_bytes remaining after) layout 0)
 
 -- ---- the output
 

@@ -78,6 +78,7 @@ use Rattle.claxon_wav.specs.declared.error.Error.TheVariants.{
   Unsupported32Bit,
   WideSample,
 }
+use Rattle.claxon_wav.specs.declared.header.Layout.{Layout}
 use Rattle.claxon_wav.specs.declared.writer.WavWriter.{WavWriter}
 
 -- the bytes of the samples of blocks, one block after another
@@ -295,33 +296,40 @@ abbrev pub IsCut : Option StreamFormat → List ℕ → Type 0
 IsCut stream s =
     (blocks : List Block) × (rest : List ℕ) × Frames stream s blocks rest × IsNotWhole stream rest
 
--- What an error says of the remaining input, where it is known, and of the output. It is
--- `OutOfMemory`, a fault in the input, an `IoError` where the input is cut or its source failed, or
--- a failed call of the output, which was counted. Or a frame has the bit depth code for 32 bits. Or
--- the input begins with blocks of which one has other channels than the layout, a sample doesn't
--- fit in its valid bits, or the bytes, with those written before, are more than a WAV file holds.
-abbrev pub ExplainsError : {W : Type 0} → Option StreamFormat → State ℕ → State ℕ → WavWriter W
-    → WavWriter W → Error → Type 0
-ExplainsError stream a b old new (Claxon error) =
+-- What an error says of the remaining input, where it is known, for a file of this layout with so
+-- many bytes of samples. It is `OutOfMemory`, a fault in the input, an `IoError` where the input is
+-- cut or its source failed. Or a frame has the bit depth code for 32 bits. Or the input begins with
+-- blocks of which one has other channels than the layout, a sample doesn't fit in its valid bits,
+-- or the bytes, with those written before, are more than a WAV file holds. Of a failed call of the
+-- output it says nothing.
+abbrev pub ExplainsInput : Option StreamFormat → State ℕ → State ℕ → Layout → ℕ → Error → Type 0
+ExplainsInput stream a b layout written (Claxon error) =
     (error ≡ OutOfMemory)
     ⊎ ((IsIo error × (RemainingIsKnown a → IsCut stream a.remaining ⊎ ReadFailedIn a b))
     ⊎ (RemainingIsKnown a → HasFault stream a.remaining error))
-ExplainsError stream a b old new Unsupported32Bit =
+ExplainsInput stream a b layout written Unsupported32Bit =
     RemainingIsKnown a → Has32Bits stream a.remaining
-ExplainsError stream a b old new OtherChannels =
+ExplainsInput stream a b layout written OtherChannels =
     RemainingIsKnown a
     → HasBlocks stream a.remaining (λ blocks.
-    All (λ b. length b.channels ≡ old.layout.channels) blocks → ⊥)
-ExplainsError stream a b old new WideSample =
+    All (λ b. length b.channels ≡ layout.channels) blocks → ⊥)
+ExplainsInput stream a b layout written WideSample =
     RemainingIsKnown a
     → HasBlocks stream a.remaining (λ blocks.
-    All (FitsIn old.layout.valid_bits) (samples_of blocks) → ⊥)
-ExplainsError stream a b old new TooLong =
+    All (FitsIn layout.valid_bits) (samples_of blocks) → ⊥)
+ExplainsInput stream a b layout written TooLong =
     RemainingIsKnown a → HasBlocks stream a.remaining (λ blocks. max_data_size
-    < old.written + length (packed_blocks old.layout.valid_bits blocks))
+    < written + length (packed_blocks layout.valid_bits blocks))
+ExplainsInput stream a b layout written (Output cause) = Unit {0}
+ExplainsInput stream a b layout written SameFile = ⊥
+ExplainsInput stream a b layout written Exists = ⊥
+
+-- What it says of the output too: a failed call of it was counted.
+abbrev pub ExplainsError : {W : Type 0} → Option StreamFormat → State ℕ → State ℕ → WavWriter W
+    → WavWriter W → Error → Type 0
 ExplainsError stream a b old new (Output cause) = CallsFailed old new
-ExplainsError stream a b old new SameFile = ⊥
-ExplainsError stream a b old new Exists = ⊥
+ExplainsError stream a b old new error =
+    ExplainsInput stream a b old.layout old.written error
 
 -- ---- memory
 

@@ -4,13 +4,14 @@ ghost use Rattle.std.specs.Option.{ForSome};
 ghost use Rattle.claxon.specs.FlacReader.{flac_metadata_only};
 ghost use Rattle.claxon_blocks.specs.Md5Verdict.{HasHashedBytes};
 ghost use Rattle.claxon_wav.specs.Conversion.{
+  ConversionFaultIsSound,
   ConversionIsSound,
   WritesFile,
   WritesStream,
   plan_computes_md5,
 };
 ghost use Rattle.claxon_wav.specs.DataSize.{max_data_size};
-ghost use Rattle.claxon_wav.specs.Writer.{BeginsAs, SameOutput};
+ghost use Rattle.claxon_wav.specs.Writer.{BeginsAs, SameOutput, StartFaultIsSound};
 
 use crate::blocks::{convert, convert_to_stream};
 use crate::error::Result;
@@ -80,6 +81,8 @@ pub fn write_file<R: Read + Drop, W: Write + Seek, E: Write>(
 ) -> Result<Conversion>
     requires reads_frames { flac_metadata_only flac.old ≡ false }
     ensures is_sound { ConversionIsSound (plan_computes_md5 plan) R.remaining flac.old result }
+    ensures fault_is_sound { ConversionFaultIsSound plan.layout R.remaining result flac.old
+        flac.new }
     ensures writes_file { WritesFile plan W.contents W.stream_position R.remaining flac.old result
         file.old file.new }
 {
@@ -111,6 +114,8 @@ pub fn write_stream<R: Read + Drop, W: Write, E: Write>(
 ) -> Result<Conversion>
     requires reads_frames { flac_metadata_only flac.old ≡ false }
     ensures is_sound { ConversionIsSound (plan_computes_md5 plan) R.remaining flac.old result }
+    ensures fault_is_sound { ConversionFaultIsSound plan.layout R.remaining result flac.old
+        flac.new }
     ensures writes_stream { WritesStream plan R.remaining flac.old result (W.contents output.old)
         (W.contents output.new) }
 {
@@ -133,6 +138,7 @@ fn start_planned<W: Write>(wav: &mut WavWriter<'_, W>, announced: Option<u32>) -
     requires fits { ForSome announced (λ n. n ≤ max_data_size) }
     ensures same_output { SameOutput wav.old wav.new }
     ensures is_sound { OnOk result (BeginsAs W.contents announced wav.old wav.new) }
+    ensures fault_is_sound { StartFaultIsSound result wav.old wav.new }
 {
     match announced {
         Some(size) => wav.start(size),

@@ -28,6 +28,7 @@ write-requires g c =
       same_info = c.requires.same_info ∙ same;
       at_start = c.requires.at_start;
       first = c.in_ok-rescue.ensures.due_is;
+      none_waits = c.in_ok-rescue.ensures.none_wait;
     }
 
 pub returns-clause-rescues_to : goal.returns-clause-rescues_to

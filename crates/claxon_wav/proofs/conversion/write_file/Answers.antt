@@ -1,9 +1,12 @@
 use Rattle.std.proofs.Common.{rules, subst, sym, ◌∙◌}
+use Rattle.std.proofs.lemmas.Result.{err_from_is_err_and}
 use Rattle.claxon.specs.FlacReader.{flac_streaminfo}
 use Rattle.claxon.specs.MetadataBlock.{info_view}
+use Rattle.claxon.specs.Opening.{flac_bytes}
 use Rattle.claxon.specs.StreamInfos.{StreamInfo}
+use Rattle.claxon_write.specs.WriteSamples.{flac_stream}
 use Rattle.claxon_blocks.specs.Md5Verdict.{Md5IsJudged}
-use Rattle.claxon_wav.proofs.Converting.{judged}
+use Rattle.claxon_wav.proofs.Converting.{input_explained, judged}
 use Rattle.claxon_wav.proofs.Planned.{corrected_file, planned_file}
 use Rattle.claxon_wav.proofs.SampleCounts.{counted}
 use Rattle.claxon_wav.proofs.conversion.write_file.Goals as goal
@@ -32,3 +35,11 @@ returns-clause-writes_file g c =
     let n = corrected_file g.W.Write.contents c.args.plan all.blocks c.new-wav.result c.start.new.self c.convert.new.wav fresh.layout_is g.W.Seek.stream_position all.put c.unwrap_or.result c.unwrap_or.ensures c.in_ok-start.ensures.is_sound all.puts all.ends in
     let m = rw (← w, fresh.counts.writer) at n in
     (all.blocks, all.all, search rules, search rules)
+
+pub returns-in_err-convert-clause-fault_is_sound : goal.returns-in_err-convert-clause-fault_is_sound
+returns-in_err-convert-clause-fault_is_sound g c =
+    let p = err_from_is_err_and c.from_residual-in_err-convert.result c.from_residual-in_err-convert.ensures.1 in
+    let fresh = c.new-wav.ensures.is_new_writer in
+    let begins = c.in_ok-start.ensures.is_sound in
+    let said = input_explained (flac_stream c.args.flac.now) (flac_bytes g.R.Read.remaining c.args.flac.now) (flac_bytes g.R.Read.remaining c.convert.new.flac) c.start.new.self c.convert.new.wav c.args.plan.layout (begins.writes.layout_is ∙ fresh.layout_is) begins.writes.none_so_far c.in_err-convert.field-0.0 c.in_err-convert.ensures.fault_is_sound in
+    rw (p.1, p.2) said

@@ -1,10 +1,13 @@
 use Rattle.std.proofs.Common.{rules, subst, sym, ◌∙◌}
+use Rattle.std.proofs.lemmas.Result.{err_from_is_err_and}
 use Rattle.claxon.specs.FlacReader.{flac_streaminfo}
 use Rattle.claxon.specs.MetadataBlock.{info_view}
+use Rattle.claxon.specs.Opening.{flac_bytes}
 use Rattle.claxon.specs.StreamInfos.{StreamInfo}
+use Rattle.claxon_write.specs.WriteSamples.{flac_stream}
 use Rattle.claxon_blocks.specs.Md5Verdict.{Md5IsJudged}
-use Rattle.claxon_wav.proofs.Converting.{judged}
-use Rattle.claxon_wav.proofs.Planned.{none_begun, planned_other, planned_stream, planned_unknown, with_header}
+use Rattle.claxon_wav.proofs.Converting.{input_explained, judged}
+use Rattle.claxon_wav.proofs.Planned.{none_begun, planned_other, planned_stream, planned_unknown, same_layout_begun, with_header}
 use Rattle.claxon_wav.proofs.SampleCounts.{counted}
 use Rattle.claxon_wav.proofs.conversion.write_stream.Goals as goal
 
@@ -40,3 +43,11 @@ returns-clause-writes_stream g c =
           (planned_other g.W.Write.contents c.args.plan all.blocks c.new-wav.result c.start_planned.new.wav c.convert_to_stream.new.wav fresh.layout_is n begins all.other some differ)
           (λ header appends. let l = rw (← w, fresh.counts.writer) at appends in search rules),
     )
+
+pub returns-in_err-convert_to_stream-clause-fault_is_sound : goal.returns-in_err-convert_to_stream-clause-fault_is_sound
+returns-in_err-convert_to_stream-clause-fault_is_sound g c =
+    let p = err_from_is_err_and c.from_residual-in_err-convert_to_stream.result c.from_residual-in_err-convert_to_stream.ensures.1 in
+    let fresh = c.new-wav.ensures.is_new_writer in
+    let begins = c.in_ok-start_planned.ensures.is_sound in
+    let said = input_explained (flac_stream c.args.flac.now) (flac_bytes g.R.Read.remaining c.args.flac.now) (flac_bytes g.R.Read.remaining c.convert_to_stream.new.flac) c.start_planned.new.wav c.convert_to_stream.new.wav c.args.plan.layout (same_layout_begun g.W.Write.contents c.args.plan.announced c.new-wav.result c.start_planned.new.wav begins ∙ fresh.layout_is) (none_begun g.W.Write.contents c.args.plan.announced c.new-wav.result c.start_planned.new.wav begins) c.in_err-convert_to_stream.field-0.0 c.in_err-convert_to_stream.ensures.fault_is_sound in
+    rw (p.1, p.2) said

@@ -2,10 +2,9 @@ use Rattle.std.proofs.Common.{◌≡◌, ◌≤◌, ◌+◌, ◌-◌, ◌∙◌,
 use Rattle.std.proofs.lemmas.List.{length-replicate, replicate-append-replicate, take-replicate, take_min}
 use Rattle.std.proofs.lemmas.Result.{err_from_is_err_and}
 use Rattle.std.specs.Io.KnownBytes.{Appends}
-use Rattle.claxon_write.specs.CountingWriter.{inner_contents}
 use Rattle.claxon_write.specs.Written.{AppendsPrefix}
 use Rattle.claxon_write.proofs.Appended.{appends_more}
-use Rattle.claxon_write.proofs.Counts.{none_failed_both, write_failed_after}
+use Rattle.claxon_write.proofs.Counts.{none_failed_both}
 use Rattle.claxon_wav.proofs.writer.write_repeated.Goals as goal
 
 -- one piece more

@@ -23,4 +23,4 @@ returns-clause-is_sound g c =
       | then-rules+in_ok-put_silence w ↦ rw w.wav-is (gap_filled rules old.due c.args.wav.now w.put_silence.new.self c.args.sample more w.if-rules.true c.requires.is_file_of w.in_ok-put_silence.ensures.is_sound w.in_ok-put_silence.ensures.same_header w.in_ok-put_silence.ensures.unflushed)
       | else-rules w ↦ rw w.wav-is (gap_skipped rules old.due c.args.wav.now c.args.sample w.if-rules.false)
     ] in
-    gap_noted rules old _ c.args.wav.now c.if-rules.wav c.args.sample c.args.byte more refl refl c.note.ensures.notes_range puts
+    gap_noted rules old _ c.args.wav.now c.if-rules.wav c.args.sample c.args.byte more refl refl refl c.note.ensures.notes_range puts
