@@ -4,6 +4,7 @@ What has to be said of each is in tools/streams/damaged.py, worked by hand. The 
 is the one at the top of the repository, or that of the environment variable CLAXON_PROGRAM.
 """
 import contextlib
+import itertools
 import json
 import os
 import re
@@ -326,18 +327,19 @@ class FoundSlowly(Archive):
 
     def find_slowly(self, then: Callable[[], object]) -> Any:
         """Finds some files at once, and the others when the first have verdicts."""
-        real = finding.find
+        real = finding._put
+        numbers = itertools.count()
 
-        def find(*words: Any) -> Iterator[finding.Found]:
-            for index, found in enumerate(real(*words)):
-                if index == 40:
-                    time.sleep(0.6)
-                if index == 41:
-                    self.wait_until(lambda: len(self.kept("path")) >= 41)
-                    then()
-                yield found
+        def put(*words: Any) -> None:
+            number = next(numbers)
+            if number == 40:
+                time.sleep(0.6)
+            if number == 41:
+                self.wait_until(lambda: len(self.kept("path")) >= 41)
+                then()
+            real(*words)
 
-        return mock.patch.object(finding, "find", find)
+        return mock.patch.object(finding, "_put", put)
 
     def run_here(self, scheduler: Optional[str] = None) -> None:
         results = Results(str(self.results), is_new=True)

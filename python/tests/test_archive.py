@@ -13,7 +13,6 @@ from typing import List
 from unittest import mock
 
 from claxon.archive import finding
-from claxon.archive.batch import identity_of
 from claxon.archive.progress import Progress
 from claxon.archive.results import Results
 from claxon.archive.run import Wanted, run
@@ -183,7 +182,9 @@ class Again(Archive):
             path.parent.mkdir(parents=True, exist_ok=True)
             path.touch()
             paths.append(os.fsencode(path))
-            _, *identity = identity_of(path.stat())
+            status = path.stat()
+            times = status.st_mtime_ns, status.st_ctime_ns
+            identity = (*times, status.st_dev, status.st_ino)
             database.execute(
                 "INSERT INTO files (path, path_text, size, changed, ctime, device, inode, verified,"
                 " verdict) VALUES (?, ?, 0, ?, ?, ?, ?, ?, 'ok')",

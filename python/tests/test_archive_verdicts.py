@@ -227,14 +227,15 @@ class Identity(Kept):
         self.assertEqual(row["ctime"], status.st_ctime_ns)
 
     def test_large_numbers(self) -> None:
-        """Times after the year 2262 have more than 63 bits."""
-        path = self.paths[3]
-        os.utime(path, (1 << 33, 10_000_000_000))
-        if os.stat(path).st_mtime_ns < 1 << 63:
-            self.skipTest("the file system doesn't have such times")
-        for _ in range(2):
-            self.assertEqual(self.run_files().status, 0)
-        self.assertEqual(self.count_verified(), {path: 1})
+        """Times after the year 2262, and before 1677, have more than 63 bits."""
+        for path, seconds in zip(self.paths, (10_000_000_000, -10_000_000_000)):
+            with self.subTest(seconds):
+                os.utime(path, (1 << 33, seconds))
+                if abs(os.stat(path).st_mtime_ns) < 1 << 63:
+                    self.skipTest("the file system doesn't have such times")
+                for _ in range(2):
+                    self.assertEqual(self.run_files().status, 0)
+                self.assertEqual(self.count_verified()[path], 1)
 
     def test_sample(self) -> None:
         """All files once in so many runs, those first that were verified longest ago."""

@@ -37,10 +37,6 @@ Row = Tuple[
 # A file as it was just before it was verified: the first three columns.
 File = Tuple[bytes, int, int]
 
-# The size of a file, the times of the last changes of its content and of its inode, in nanoseconds
-# since 1970, its device and its inode.
-Identity = Tuple[int, int, int, int, int]
-
 _PROGRAM = "CLAXON_PROGRAM"
 
 # The versions of programs that were asked for them, by their paths and the times of their files.
@@ -74,24 +70,16 @@ _CUT, _MOST_MISSING = "truncated", 99_000
 _NOT_AN_OBJECT = (ValueError, AttributeError, LookupError, TypeError)
 
 # The integers of SQLite have 64 bits, one of which is the sign.
-_SIGN = 1 << 63
+SIGN = 1 << 63
 
 
 class Unable(Exception):
     """No file can be verified here. The text says why."""
 
 
-def identity_of(status: os.stat_result) -> Identity:
-    changed, ctime = status.st_mtime_ns, status.st_ctime_ns
-    device, inode = status.st_dev, status.st_ino
-    if not (changed < _SIGN > ctime and device < _SIGN > inode):
-        changed, ctime, device, inode = map(_signed, (changed, ctime, device, inode))
-    return status.st_size, changed, ctime, device, inode
-
-
-def _signed(number: int) -> int:
+def signed(number: int) -> int:
     """The number as an integer of SQLite."""
-    return (number + _SIGN) % (2 * _SIGN) - _SIGN
+    return (number + SIGN) % (2 * SIGN) - SIGN
 
 
 def find_program(beside: Optional[str]) -> str:
@@ -251,7 +239,7 @@ def verify_batch(names: bytes, beside: Optional[str], turn: Turn = nullcontext()
             continue
         if stat.S_ISREG(status.st_mode):
             changed = status.st_mtime_ns
-            files.append((path, status.st_size, changed if changed < _SIGN else _signed(changed)))
+            files.append((path, status.st_size, signed(changed)))
     return rows + _verify_files(program, version, files, turn)
 
 
@@ -426,7 +414,7 @@ def _kept(row: Row) -> Row:
 def _is_kept(value: Any) -> bool:
     """Whether SQLite can keep the value."""
     if isinstance(value, int):
-        return -_SIGN <= value < _SIGN
+        return -SIGN <= value < SIGN
     if isinstance(value, str):
         value.encode()  # ValueError where it isn't text
         return True

@@ -4,15 +4,17 @@ import operator
 import os
 import stat
 import threading
-from collections import deque
-from typing import Any, Callable, Deque, FrozenSet, Iterator, List, NamedTuple, Optional, Tuple
-
-from .batch import identity_of
+import time
+from typing import Any, Callable, FrozenSet, Iterator, List, NamedTuple, Optional, Tuple
 
 MARKER = b"fLaC"
 
-# The path of a file, and the members of its identity.
-Found = Tuple[bytes, int, int, int, int, int]
+# By what a file is known: its path, its size, the times of the last changes of its content and of
+# its inode in nanoseconds since 1970, and its inode.
+Known = Tuple[bytes, int, int, int, int]
+
+# With its device, by which it isn't known: a disk has another where it is mounted anew.
+File = Tuple[bytes, int, int, int, int, int]
 
 # What lies in a folder is sorted, so that rows of neighbours are put together, which takes less
 # time. With more entries each of so many are sorted: all would take much memory.
@@ -24,11 +26,17 @@ Unreadable = Callable[[bytes, OSError], object]
 # Files that aren't opened in search of the marker, by their devices and inodes.
 Inodes = FrozenSet[Tuple[int, int]]
 
-# So many files are handed over together, and listed before others are searched: threads of Python
-# that work by turns take less time than two at once.
+# So many files are compared together: the memory of few is used again while caches have it.
+_COMPARED = 300
+
+# So many files that may be due are handed over, and listed before others are searched: threads of
+# Python that work by turns take less time than two at once.
 _FILES = 3000
 
-# After so many files it is looked whether they are enough, or the search is stopped.
+# After so many seconds without a comparison the search is slow, and what was found isn't compared.
+_SLOW = 0.3
+
+# After so many entries it is looked whether the files are enough, or the search is stopped.
 _STEP = 30
 
 # How a name ends: whatever the case of each letter.
@@ -63,38 +71,75 @@ def first_entries(operand: bytes) -> Optional[List[bytes]]:
         return None
 
 
-class Part(NamedTuple):
-    """A part of what is found: files, and what can't be read, with the reason."""
+class Found:
+    """Files that were found. More may be put to the end while others are taken."""
 
-    files: List[Found]
+    def __init__(self) -> None:
+        self.files: List[Known] = []
+        self.devices: List[int] = []  # that of each file
+
+    def taken(self) -> Tuple[List[Known], List[int]]:
+        """All of them, which are taken away."""
+        devices = _taken(self.devices, len(self.devices))
+        return _taken(self.files, len(devices)), devices
+
+
+def _taken(found: List[Any], number: int) -> List[Any]:
+    """So many of the first ones, which are taken away."""
+    taken = found[:number]
+    del found[:number]
+    return taken
+
+
+class Part(NamedTuple):
+    """A part of what is found: how many files, those of them that may be due, and what can't be
+    read, with the reason."""
+
+    number: int
+    files: List[File]
     unread: List[Tuple[bytes, str]]
 
 
 class Finder(threading.Thread):
-    """Finds files while others are verified."""
+    """Finds files while others are verified, and passes over those that aren't due."""
 
     def __init__(
         self,
         operands: List[bytes],
         passed_over: Optional[Inodes],
+        others: Callable[[List[Known], List[int]], List[File]],
         hand: Callable[[Optional["Finder"]], object],
     ) -> None:
-        """Hands itself over where there is much to take, and waits until `go_on` is called; hands
-        over None at its end."""
+        """`others` gives those of the files, of such devices, that may be due. Hands itself over
+        where there is much to take, and waits until `go_on` is called; hands over None at its
+        end."""
         super().__init__(daemon=True)
         self._operands = operands
         self._passed_over = passed_over
+        self._get_others = others
         self._hand = hand
         self._turn = threading.Semaphore(0)
         self._is_stopped = False
-        # What wasn't taken. Both ends may be used at once.
-        self._files: Deque[Found] = deque()
-        self._unread: Deque[Tuple[bytes, str]] = deque()
+        self._found = Found()
+        self._compared_at = time.monotonic()
+        # What wasn't taken, and a lock for who takes of it, or of what was found.
+        self._number = 0
+        self._others: List[File] = []
+        self._unread: List[Tuple[bytes, str]] = []
+        self._lock = threading.Lock()
         self.error: Optional[BaseException] = None
 
     def take(self) -> Part:
-        """What was found since the last call."""
-        return Part(_taken_from(self._files), _taken_from(self._unread))
+        """What was found since the last call. Where the search is slow, files that weren't compared
+        yet are among those that may be due."""
+        is_slow = time.monotonic() - self._compared_at > _SLOW
+        with self._lock:
+            found = _with_devices(*self._found.taken()) if is_slow else []
+            others = _taken(self._others, len(self._others))
+            unread = _taken(self._unread, len(self._unread))
+            number = self._number + len(found)
+            self._number = 0
+        return Part(number, others + found, unread)
 
     def go_on(self) -> None:
         self._turn.release()
@@ -108,20 +153,30 @@ class Finder(threading.Thread):
             for operand in self._operands:
                 if not self._is_stopped:
                     self._find_below(operand)
+            self._compare()
         except BaseException as error:
             self.error = error
         self._hand(None)
 
     def _find_below(self, operand: bytes) -> None:
         """Finds the files of an operand, or some of them if it is stopped."""
-        found = find(operand, self._passed_over, self._put_unread)
-        for file in found:
-            self._files.append(file)
-            self._files.extend(itertools.islice(found, _STEP - 1))
+        for is_end in find(operand, self._passed_over, self._put_unread, self._found):
             if self._is_stopped:
                 return
-            if len(self._files) >= _FILES:
-                self._hand_over()
+            if is_end or len(self._found.files) >= _COMPARED:
+                self._compare()
+
+    def _compare(self) -> None:
+        """Passes over those of the found files that aren't due."""
+        with self._lock:
+            files, devices = self._found.taken()
+        others = self._get_others(files, devices)
+        self._compared_at = time.monotonic()
+        with self._lock:
+            self._number += len(files)
+            self._others += others
+        if len(self._others) >= _FILES:
+            self._hand_over()
 
     def _put_unread(self, path: bytes, error: OSError) -> None:
         self._unread.append((path, error.strerror or str(error)))
@@ -134,12 +189,19 @@ class Finder(threading.Thread):
             self._turn.acquire()
 
 
-def _taken_from(found: "Deque[Any]") -> List[Any]:
-    return [found.popleft() for _ in range(len(found))]
+def _with_devices(files: List[Known], devices: List[int]) -> List[File]:
+    return [(*file, device) for file, device in zip(files, devices)]
 
 
-def find(operand: bytes, passed_over: Optional[Inodes], unreadable: Unreadable) -> Iterator[Found]:
-    """The FLAC files below a folder, or the file itself if the operand is one.
+def find(
+    operand: bytes,
+    passed_over: Optional[Inodes],
+    unreadable: Unreadable,
+    found: Found,
+) -> Iterator[bool]:
+    """Puts the FLAC files below a folder into `found`, or the file itself if the operand is one.
+    After a few entries it yields, so that files can be taken: True if others may follow whose paths
+    are less.
 
     These are the regular files whose names end with `.flac`, in whatever case. Unless `passed_over`
     is None, they are also those that begin with the marker, but for these inodes. Below the operand
@@ -151,7 +213,8 @@ def find(operand: bytes, passed_over: Optional[Inodes], unreadable: Unreadable) 
         unreadable(_as_folder(operand), error)
         return
     if stat.S_ISREG(status.st_mode):
-        yield (operand,) + identity_of(status)
+        yield True
+        _put(operand, status, found)
         return
     folders = [operand] if stat.S_ISDIR(status.st_mode) else []
     while folders:
@@ -159,20 +222,36 @@ def find(operand: bytes, passed_over: Optional[Inodes], unreadable: Unreadable) 
         below: List[bytes] = []
         try:
             with os.scandir(folder) as entries:
-                for chunk in _by_name(entries):
-                    yield from _find_among(chunk, below, passed_over, unreadable)
+                for ordered in _by_name(entries):
+                    yield _is_less(ordered[-1].path, found)
+                    while ordered:
+                        some = ordered[: -_STEP - 1 : -1]
+                        del ordered[-_STEP:]  # with the status that each keeps
+                        _find_among(some, below, passed_over, unreadable, found)
+                        yield False
         except OSError as error:
             unreadable(_as_folder(folder), error)
         folders += reversed(below)
 
 
+def _is_less(path: bytes, found: Found) -> bool:
+    """Whether the path is less than that of the last file, if that wasn't taken."""
+    return any(path < last[0] for last in found.files[-1:])
+
+
+def _put(path: bytes, status: os.stat_result, found: Found) -> None:
+    changed, ctime = status.st_mtime_ns, status.st_ctime_ns
+    found.files.append((path, status.st_size, changed, ctime, status.st_ino))
+    found.devices.append(status.st_dev)
+
+
 def _by_name(entries: "Iterator[os.DirEntry[bytes]]") -> "Iterator[List[os.DirEntry[bytes]]]":
     """Lists of entries, each with the first name at its end."""
-    chunk = list(itertools.islice(entries, _SORTED))
-    while chunk:
-        chunk.sort(key=operator.attrgetter("name"), reverse=True)
-        yield chunk
-        chunk = list(itertools.islice(entries, _SORTED))
+    ordered = list(itertools.islice(entries, _SORTED))
+    while ordered:
+        ordered.sort(key=operator.attrgetter("name"), reverse=True)
+        yield ordered
+        ordered = list(itertools.islice(entries, _SORTED))
 
 
 def _find_among(
@@ -180,25 +259,27 @@ def _find_among(
     folders: List[bytes],
     passed_over: Optional[Inodes],
     unreadable: Unreadable,
-) -> Iterator[Found]:
-    """The FLAC files among entries of a folder. Adds the folders among them to `folders`."""
-    while entries:
-        entry = entries.pop()  # with the status that it keeps
-        if entry.is_dir(follow_symlinks=False):
-            folders.append(entry.path)
-            continue
+    found: Found,
+) -> None:
+    """Puts the FLAC files among entries of a folder into `found`, folders into `folders`."""
+    for entry in entries:
         is_named = entry.name.endswith(_ENDINGS)
-        if not is_named and passed_over is None:
-            continue
-        try:
-            status = entry.stat()
-            if stat.S_ISREG(status.st_mode) and (
-                is_named or _is_marked(entry, status, passed_over)
-            ):
-                yield (entry.path, *identity_of(status))
-        except OSError as error:
-            if is_named or not isinstance(error, FileNotFoundError):
-                unreadable(entry.path, error)
+        # Most that are so named are files, which their status tells too.
+        if not is_named and entry.is_dir(follow_symlinks=False):
+            folders.append(entry.path)
+        elif is_named or passed_over is not None:
+            try:
+                status = entry.stat()
+                if not stat.S_ISREG(status.st_mode):
+                    if entry.is_dir(follow_symlinks=False):
+                        folders.append(entry.path)
+                elif is_named or _is_marked(entry, status, passed_over):
+                    _put(entry.path, status, found)
+            except OSError as error:
+                if entry.is_dir(follow_symlinks=False):
+                    folders.append(entry.path)
+                elif is_named or not isinstance(error, FileNotFoundError):
+                    unreadable(entry.path, error)
 
 
 def _is_marked(

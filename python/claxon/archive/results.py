@@ -10,10 +10,11 @@ from contextlib import contextmanager
 from typing import Any, Dict, Iterable, Iterator, List, NamedTuple, Optional, Tuple, Union
 
 from . import tables
-from .batch import Row, unread_row
-from .finding import Found, Inodes, is_missing
+from .batch import SIGN, Row, signed, unread_row
+from .finding import File, Inodes, Part, is_missing
 from .reading import open_to_read
 from .tables import NOT_RIGHT, SHOWN, STATE, path_text
+from .unchanged import Unchanged
 
 COLUMNS = tables.COLUMNS
 
@@ -22,10 +23,6 @@ VERDICTS = ("ok", "wrong", "not supported", "not read", "missing")
 # How many files are looked up in the results by one statement. Older versions of SQLite allow no
 # more than 999 values in it.
 _CHUNK = 300 if sqlite3.sqlite_version_info >= (3, 32) else 150
-
-# A found file, or a row of `UNCHANGED`, without the device: a disk has another where it is mounted
-# anew.
-_WITHOUT_DEVICE = operator.itemgetter(0, 1, 2, 3, 5)
 
 # How many rows of files that are new are put by one statement, of these columns of `incoming`, and
 # into the history of these.
@@ -146,6 +143,7 @@ class Results:
         if not is_new and not os.path.exists(path):
             raise ResultsError("no such file")
         self._run: Optional[int] = None
+        self._counted: Optional[Tuple[Tuple[Ranges, int], Due]] = None
         if is_read:
             self._database = open_to_read(path, _PATIENCE)
         else:
@@ -239,52 +237,44 @@ class Results:
             self._database.execute("PRAGMA temp_store = FILE")
             self._execute_all(tables.TEMPORARY_TABLES)
             self._database.executemany("INSERT INTO within VALUES (?, ?)", ranges)
-        rows = "within JOIN files ON path >= low AND path < high"
-        not_there = self._count(f"{rows} WHERE {NOT_RIGHT} AND {_IS_NOT_THERE}")
-        self._there = self._count(rows) - not_there
+        self._ranges = ranges
+        self._there: Optional[int] = None
         self._found = 0
         self._has_taken_over = self._count("files WHERE ctime IS NULL AND verdict = 'ok'") > 0
 
-    def list_files(
-        self, found: List[Found], unread: List[Tuple[bytes, str]], before: float
-    ) -> None:
-        """Lists those of the found files that are to be verified: also those that were verified
-        before this time. The others are files and folders that can't be read, and why."""
+    def unchanged(self, before: float) -> Unchanged:
+        """Tells what was verified since this time, and needn't be listed."""
+        return Unchanged(self.path, before, _PATIENCE)
+
+    def list_files(self, part: Part, before: float) -> None:
+        """Lists those of the files that are to be verified: also those that were verified before
+        this time; and what can't be read."""
+        files = [_as_stored(file) for file in part.files]
         with _temporary():
-            others = [file for part in _ascending(found) for file in self._others(part, before)]
-            for start in range(0, len(others), _CHUNK):
-                chunk = others[start : start + _CHUNK]
+            for start in range(0, len(files), _CHUNK):
+                chunk = files[start : start + _CHUNK]
                 self._execute_for(tables.PUT_DUE, tables.FOUND_ROW, chunk, before)
-            self._database.executemany("INSERT INTO unread VALUES (?, ?)", unread)
-        self._found += len(found)
-        if self._has_taken_over:
+            self._database.executemany("INSERT INTO unread VALUES (?, ?)", part.unread)
+        self._found += part.number
+        if self._has_taken_over and files:
             with self.transaction():
-                self._put_inodes(found)
+                self._put_inodes(files)
 
-    def _others(self, found: List[Found], before: float) -> List[Found]:
-        """Files whose paths ascend, without those that are right and unchanged. Most are: to read
-        all rows between two paths takes less time than to look each up."""
-        limits = found[0][0], found[-1][0], before, 2 * len(found)
-        rows = self._database.execute(tables.UNCHANGED, limits).fetchall()
-        if rows == found:
-            return []
-        known = set(map(_WITHOUT_DEVICE, rows))
-        return [file for file in found if _WITHOUT_DEVICE(file) not in known]
-
-    def _put_inodes(self, found: List[Found]) -> None:
+    def _put_inodes(self, files: List[Tuple[Any, ...]]) -> None:
         """Completes rows that were taken over."""
         self._database.executemany(
             "UPDATE files SET ctime = ?, device = ?, inode = ?"
             " WHERE path = ? AND size = ? AND changed = ? AND ctime IS NULL AND verdict = 'ok'",
             (
                 (ctime, device, inode, path, size, changed)
-                for path, size, changed, ctime, device, inode in found
+                for path, size, changed, ctime, inode, device in files
             ),
         )
 
     def end_listing(self, sample: float) -> Due:
         """Puts rows of what can't be read, marks what is missing, and lists so many hundredths of
         the right files again."""
+        there = self._count_there()
         with self.transaction():
             self._database.execute(
                 f"DELETE FROM files WHERE {NOT_RIGHT} AND verdict = 'not read'"
@@ -292,7 +282,7 @@ class Results:
                 " AND EXISTS (SELECT 1 FROM within WHERE path >= low AND path < high)"
             )
             back = self._unmark_missing()
-            if self._number_not_found(back) > 0:
+            if self._number_not_found(there + back) > 0:
                 self._mark_missing()
             unread = self._database.execute("SELECT path, min(reason) FROM unread GROUP BY path")
             self._put_rows(
@@ -305,14 +295,21 @@ class Results:
         files, size = self._database.execute("SELECT count(*), total(size) FROM due").fetchone()
         return Due(files, int(size))
 
-    def _number_not_found(self, back: int) -> int:
-        """How many of the rows that there were are of files that weren't found, where so many that
-        were missing are back."""
+    def _count_there(self) -> int:
+        """How many rows there are of what isn't missing, or were before the run put any."""
+        if self._there is None:
+            rows = "within JOIN files ON path >= low AND path < high"
+            not_there = self._count(f"{rows} WHERE {NOT_RIGHT} AND {_IS_NOT_THERE}")
+            self._there = self._number_and_size(self._ranges).files - not_there
+        return self._there
+
+    def _number_not_found(self, there: int) -> int:
+        """How many of so many rows are of files that weren't found."""
         unread = self._count(
             "files JOIN (SELECT DISTINCT path FROM unread) USING (path) WHERE missing IS NULL"
         )
         new = self._count("due WHERE is_new")
-        return self._there + back - (self._found - new) - unread
+        return there - (self._found - new) - unread
 
     def _unmark_missing(self) -> int:
         back = [path for path in self._paths("missing IS NOT NULL") if not is_missing(path)]
@@ -383,6 +380,7 @@ class Results:
     # ---- verdicts
 
     def start_run(self) -> None:
+        self._count_there()
         now = time.time()
         with self.transaction():
             cursor = self._database.execute(
@@ -464,22 +462,43 @@ class Results:
     ) -> List[Tuple[Any, ...]]:
         return self._database.execute(statement, values).fetchall()
 
+    def _has_all(self, ranges: Ranges) -> bool:
+        """Whether all rows are in these ranges: those of a table are counted in less time."""
+        (first, last), within = ALL[0], sorted(ranges)
+        ends = [first, *(high for _, high in within)]
+        between = zip(ends, [*(low for low, _ in within), last])
+        select = "SELECT 1 FROM files WHERE path >= ? AND path < ? LIMIT 1"
+        return not any(self.select(select, list(limits)) for limits in between)
+
+    def _number_and_size(self, ranges: Ranges) -> Due:
+        """Those of all rows. They are read again only where this connection changed rows since."""
+        key = ranges, self._database.total_changes
+        if self._counted is None or self._counted[0] != key:
+            select = "SELECT count(*), total(size) FROM files"
+            if self._has_all(ranges):
+                rows = self.select(select, [])
+            else:
+                select += " WHERE path >= ? AND path < ?"
+                rows = [row for limits in ranges for row in self.select(select, [*limits])]
+            number, size = (sum(row[column] for row in rows) for column in (0, 1))
+            self._counted = key, Due(number, int(size))
+        return self._counted[1]
+
     def counts(self, ranges: Ranges) -> Dict[str, Due]:
         """How many files there are of each verdict, and their sizes."""
+        every = self._number_and_size(ranges)
         found: Dict[str, Due] = {}
-        rows = "FROM files WHERE path >= ? AND path < ?"
         # Most are right: to count the others alone, by their index, takes less time.
         select = (
-            f"SELECT 'ok', count(*), total(size) {rows} UNION ALL"
-            f" SELECT {STATE}, count(*), total(size) {rows} AND {NOT_RIGHT} GROUP BY 1"
+            f"SELECT {STATE}, count(*), total(size) FROM files"
+            f" WHERE path >= ? AND path < ? AND {NOT_RIGHT} GROUP BY 1"
         )
         for limits in ranges:
-            (_, *every), *others = self._database.execute(select, limits * 2)
-            right = (every[column] - sum(row[1 + column] for row in others) for column in (0, 1))
-            for verdict, files, size in (("ok", *right), *others):
+            for verdict, files, size in self._database.execute(select, limits):
                 before = found.get(verdict, Due(0, 0))
                 found[verdict] = Due(before.files + files, before.size + int(size))
-        return found
+        files, size = (sum(due[member] for due in found.values()) for member in (0, 1))
+        return {"ok": Due(every.files - files, every.size - size), **found}
 
     def not_right(self, ranges: Ranges) -> Iterator[Dict[str, Any]]:
         """The rows of what isn't right, in order of paths."""
@@ -503,11 +522,12 @@ class Results:
                 low = page[-1][0] + b"\0"
 
 
-def _ascending(found: List[Found]) -> List[List[Found]]:
-    """The files in parts, in each of which paths ascend."""
-    descents = map(operator.lt, found[1:], found)
-    starts = [0, *itertools.compress(range(1, len(found)), descents), len(found)]
-    return [found[start:end] for start, end in zip(starts, starts[1:]) if start < end]
+def _as_stored(file: File) -> Tuple[Any, ...]:
+    """The file with numbers that SQLite can store."""
+    path, *numbers = file
+    if -SIGN <= min(numbers) and max(numbers) < SIGN:
+        return file
+    return (path, *map(signed, numbers))
 
 
 @contextmanager

@@ -200,7 +200,8 @@ class Verification:
         if self._wanted.older_than is not None:
             self._before = time.time() - self._wanted.older_than * 86400
         self._results.start_listing(ranges_of(folders))
-        self._finder = Finder(folders, passed_over, self._events.put)
+        unchanged = self._results.unchanged(self._before)
+        self._finder = Finder(folders, passed_over, unchanged.others, self._events.put)
         self._finder.start()
         try:
             while self._due is None or self._is_any_left():
@@ -214,6 +215,7 @@ class Verification:
             raise
         finally:
             self._finder.stop()
+            unchanged.close()
 
     def _is_any_left(self) -> bool:
         return bool(self._waiting or self._again or self._alone or self._running)
@@ -249,11 +251,11 @@ class Verification:
 
     def _list_found(self) -> None:
         """Lists what was found since it was done before."""
-        files, unread = self._finder.take()
-        self._results.list_files(files, unread, self._before)
+        part = self._finder.take()
+        self._results.list_files(part, self._before)
         self._listed_at = time.monotonic()
         self._has_more = True
-        self._progress.found(len(files))
+        self._progress.found(part.number)
 
     def _end_listing(self) -> None:
         if self._finder.error is not None:

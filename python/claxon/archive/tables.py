@@ -132,20 +132,22 @@ ON CONFLICT (path) DO UPDATE SET
 # or was verified before some time. Of rows that were taken over the inode isn't known yet.
 FOUND_ROW = "(?, ?, ?, ?, ?, ?)"
 PUT_DUE = """
-INSERT INTO due SELECT found.column1, found.column2, found.column4, found.column5, found.column6,
+INSERT INTO due SELECT found.column1, found.column2, found.column4, found.column6, found.column5,
     files.path IS NULL
 FROM (VALUES {rows}) AS found LEFT JOIN files ON files.path = found.column1
 WHERE files.size IS NOT found.column2 OR files.changed IS NOT found.column3
-    OR files.ctime <> found.column4 OR files.inode <> found.column6
+    OR files.ctime <> found.column4 OR files.inode <> found.column5
     OR files.verdict <> 'ok' OR files.unread IS NOT NULL OR files.verified < ?
 """
 
-# Files between two paths that aren't due where they are found as they were.
-UNCHANGED = """
-SELECT path, size, changed, ctime, device, inode FROM files
-WHERE path BETWEEN ? AND ? AND verdict = 'ok' AND unread IS NULL AND verified >= ?
+# What is known of files between two paths, which aren't due where they are found as they were, and
+# the paths of those among them that are due anyway.
+_KNOWN = """
+SELECT path, size, changed, ctime, inode FROM files WHERE path BETWEEN ? AND ?{since}
 ORDER BY path LIMIT ?
 """
+KNOWN, KNOWN_SINCE = _KNOWN.format(since=""), _KNOWN.format(since=" AND verified >= ?")
+NOT_RIGHT_BETWEEN = f"SELECT path FROM files WHERE {NOT_RIGHT} AND path BETWEEN ? AND ? LIMIT ?"
 
 # The rows of version 1, in which `missing` stood in place of the verdict before it.
 _ROWS_OF_VERSION_1 = """
