@@ -6,7 +6,7 @@ use claxon::frame::BlockInfo;
 
 /// A frame that was decoded: where it stands in its stream, and how it is numbered.
 #[repr(C)]
-#[derive(Clone, Copy, Debug)]
+#[derive(Clone, Copy)]
 pub struct ClaxonFrame {
     /// The position of its first byte.
     pub position: u64,

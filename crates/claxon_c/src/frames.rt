@@ -39,7 +39,7 @@ use std::alloc::Global;
 
 /// The frames of a stream, one after another.
 #[repr(C)]
-#[derive(Clone, Copy, Debug)]
+#[derive(Clone, Copy)]
 pub struct ClaxonFrames {
     pub(crate) decoder: FrameDecoder,
     /// After `NEED_MORE` how many bytes are needed at least, from the decoder's position on; else 0.

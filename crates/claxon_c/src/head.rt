@@ -27,7 +27,7 @@ const CONTENT: u32 = 2;
 
 /// The head of a stream.
 #[repr(C)]
-#[derive(Clone, Copy, Debug)]
+#[derive(Clone, Copy)]
 pub struct ClaxonHead {
     kept: KeptHead,
     /// After `NEED_MORE` how many bytes are needed at least, from the decoder's position on; else 0.

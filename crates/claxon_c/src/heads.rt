@@ -22,7 +22,7 @@ use std::alloc::Global;
 
 /// What the head of a stream says, and where its first frame begins.
 #[repr(C)]
-#[derive(Clone, Copy, Debug)]
+#[derive(Clone, Copy)]
 pub struct ClaxonInfo {
     /// The number of bytes of the head.
     pub first_frame: usize,

@@ -17,7 +17,7 @@ const HEADER_LENGTH: usize = 4;
 
 /// What the header of a metadata block says, and where the block's content stands.
 #[repr(C)]
-#[derive(Clone, Copy, Debug)]
+#[derive(Clone, Copy)]
 pub struct ClaxonMetadata {
     /// The position of the content.
     pub content: usize,

@@ -35,7 +35,7 @@ use std::alloc::Global;
 
 /// The properties of a block.
 #[repr(C)]
-#[derive(Clone, Copy, Debug)]
+#[derive(Clone, Copy)]
 pub struct ClaxonBlock {
     /// The number of samples of each channel before it.
     pub time: u64,

@@ -19,7 +19,7 @@ use std::alloc::Global;
 
 /// A search for frames.
 #[repr(C)]
-#[derive(Clone, Copy, Debug)]
+#[derive(Clone, Copy)]
 pub struct ClaxonSearch {
     finder: FrameFinder,
     /// After `NEED_MORE` how many bytes are needed at least, from the finder's position on; else 0.

@@ -29,7 +29,7 @@ use std::alloc::Global;
 
 /// A seek to a sample.
 #[repr(C)]
-#[derive(Clone, Copy, Debug)]
+#[derive(Clone, Copy)]
 pub struct ClaxonSeeker {
     kept: KeptSeeker,
     /// After `NEED_MORE` the position from which on bytes are needed.

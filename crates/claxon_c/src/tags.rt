@@ -35,7 +35,7 @@ const LENGTH_BYTES: usize = 4;
 
 /// Where the name and the value of a tag are in a content.
 #[repr(C)]
-#[derive(Clone, Copy, Debug)]
+#[derive(Clone, Copy)]
 pub struct ClaxonTag {
     /// The position of the name.
     pub name_at: usize,

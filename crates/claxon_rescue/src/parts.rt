@@ -56,7 +56,7 @@ impl Rescue {
     ghost use Rattle.claxon_rescue.specs.RescueEnds.{WriteFaultIsSound, WriteIsSound};
     ghost use Rattle.claxon_rescue.specs.Times.{first_due};
     ghost use Rattle.claxon_rescue.specs.Waiting.{waiting_frames};
-    ghost use Rattle.claxon_wav.specs.Writer.{KeepsRoom, SameHeader, SameOutput, Unflushed};
+    ghost use Rattle.claxon_wav.specs.Writer.{KeepsRoom, SameHeader, SameOutput};
 
     // Writes the samples of all frames of a stream that begins at this position, and silence where samples are lost. The errors
     // are those of `Parts::next_part`, `WavWriter::put_block` and `put_silence`, and `Unsupported` for 2^64 - 1 parts.

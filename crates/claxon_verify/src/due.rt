@@ -15,7 +15,7 @@ use claxon::frame::BlockInfo;
 use claxon::metadata::StreamInfo;
 
 /// What the next frame of a stream has to be.
-#[derive(Clone, Copy, Debug)]
+#[derive(Clone, Copy)]
 pub(crate) struct Due {
     /// Whether the block size is variable; None before the first frame.
     pub is_variable: Option<bool>,
@@ -26,7 +26,7 @@ pub(crate) struct Due {
 }
 
 /// What is known of a frame that was decoded.
-#[derive(Clone, Copy, Debug)]
+#[derive(Clone, Copy)]
 pub(crate) struct FoundFrame {
     /// What its header says.
     pub header: BlockInfo,

@@ -7,7 +7,7 @@ use crate::report::{Place, Places};
 use std::alloc::Allocator;
 
 /// The first places, as many as are wanted and as there was memory for; the others are counted.
-#[derive(Debug, Drop)]
+#[derive(Drop)]
 pub(crate) struct KeptPlaces<A: Allocator> {
     pub places: Places<A>,
     /// How many are kept after the first.
@@ -101,7 +101,7 @@ fn has_room(is_full: bool, kept: &[Place], more: usize) -> bool
 }
 
 // Places, and whether one was added.
-#[derive(Debug, Drop)]
+#[derive(Drop)]
 struct Pushed<A: Allocator> {
     items: Vec<Place, A>,
     is_pushed: bool,

@@ -26,7 +26,7 @@ use crate::report::{Damage, Gap, Place};
 use claxon::metadata::StreamInfo;
 
 /// Where a place begins that hasn't ended, and what is wrong there.
-#[derive(Debug, Drop)]
+#[derive(Drop)]
 pub(crate) struct Begun {
     pub byte: u64,
     pub sample: u64,
@@ -34,14 +34,14 @@ pub(crate) struct Begun {
 }
 
 /// Coded numbers: the first, and the one after the last.
-#[derive(Clone, Copy, Debug)]
+#[derive(Clone, Copy)]
 pub(crate) struct Numbers {
     pub first: u64,
     pub after: u64,
 }
 
 /// A place that has ended, unless a frame shows that those after it came too early.
-#[derive(Debug, Drop)]
+#[derive(Drop)]
 pub(crate) struct Ended {
     pub place: Place,
     /// The numbers that were due in it and didn't come.
@@ -51,7 +51,7 @@ pub(crate) struct Ended {
 }
 
 /// What is due, and the places that may go on.
-#[derive(Debug, Drop)]
+#[derive(Drop)]
 pub(crate) struct Scan {
     pub due: Due,
     /// The last place that has ended.
@@ -61,7 +61,7 @@ pub(crate) struct Scan {
 }
 
 /// A scan after one part more, and a place that can't go on any more.
-#[derive(Debug, Drop)]
+#[derive(Drop)]
 pub(crate) struct Scanned {
     pub scan: Scan,
     pub place: Option<Place>,

@@ -6,7 +6,7 @@ use crate::report::BlockSizes;
 use claxon::frame::BlockInfo;
 
 /// The block sizes so far.
-#[derive(Clone, Copy, Debug)]
+#[derive(Clone, Copy)]
 pub(crate) struct SizesSoFar {
     /// That of the first frame.
     first: Option<u32>,
