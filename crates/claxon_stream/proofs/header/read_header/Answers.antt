@@ -1,3 +1,5 @@
+use Rattle.std.proofs.Common.{arith}
+use Rattle.std.proofs.lemmas.Grind.{common_steps}
 use Rattle.std.proofs.Common.{None}
 use Rattle.claxon_seek.proofs.Searches.{faulty_header, header_cut_by_io, header_cut_without_bytes, other_header}
 use Rattle.claxon_stream.proofs.header.read_header.Goals as goal
@@ -23,3 +25,6 @@ returns-in-Err-FormatError c = record { is_there = faulty_header c.args.known.no
 
 pub returns-in-Err-Unsupported : goal.returns-in-Err-Unsupported
 returns-in-Err-Unsupported c = record { is_there = faulty_header c.args.known.now None c.args.bytes.now _ (rw (c.in-Err-Unsupported.is, c.in-Err-Unsupported.field-0-is) at c.header_at_start.ensures.at_start) (λ io. cc) }
+
+pub returns-in-Err-OutOfMemory : goal.returns-in-Err-OutOfMemory
+returns-in-Err-OutOfMemory c = grind (arith, common_steps)

@@ -1,3 +1,4 @@
+use Rattle.std.proofs.lemmas.Grind.{common_steps}
 use Rattle.std.proofs.Common.{◌≡◌, inl, inr, Bool, true, false, not, refl, arith}
 use Rattle.std.specs.Prelude.{IsTrue}
 use Rattle.claxon_stream.proofs.frames.FrameDecoder.is_worth_a_try.Goals as goal
@@ -29,3 +30,6 @@ returns-else-may_be_in c = record {
   knows = λ stream bytes start known. let k = c.may_be_in.ensures.may_end stream bytes start known in
       (k.0, λ waits. inl (k.1 c.if-may_be_in.false), λ late tried. absurd cc);
 }
+
+pub returns-then-is_due : goal.returns-then-is_due
+returns-then-is_due c = grind (arith, common_steps)
