@@ -378,7 +378,9 @@ void claxon_search_go_on(struct claxon_search *search, struct claxon_frames *fra
 
 /* Finds the next frame of the stream, as claxon_find_frame does. With CLAXON_OK, *found is its position, `block` is filled from
  * its header, and `position` is moved after the frame; claxon_frames_go_on goes to it. NO_MORE: there is none, but for what
- * has_passed_over says; `position` is at the end of the stream. */
+ * has_passed_over says; `position` is at the end of the stream. A frame that doesn't end within CLAXON_MAX_FRAME_BYTES isn't
+ * waited for: the bytes that are held are searched as if the stream ended with them, and if no other is whole there the search
+ * goes on 8,388,608 bytes after that frame's first. */
 uint32_t claxon_search_next(struct claxon_search *search, const uint8_t *bytes, size_t length, uint64_t at, uint32_t is_end,
                             const struct claxon_info *info, uint64_t *found, struct claxon_block *block);
 

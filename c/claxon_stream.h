@@ -507,26 +507,16 @@ CLAXON_STATIC uint32_t claxon_stream_next_block_planar(struct claxon_stream *str
     return claxon_stream_next(stream, 1);
 }
 
-/* Searches the bytes that are held, and passes over those before the next frame. Where as many as may be held aren't all of a
- * frame, the search goes on in their second half, if there is no other frame in them. */
+/* Searches the bytes that are held, and passes over those before the next frame. */
 CLAXON_STATIC uint32_t claxon_stream_try_search(struct claxon_stream *stream) {
     struct claxon_search *search = &stream->search;
-    uint64_t found = 0, from;
+    uint64_t found = 0;
     uint32_t status;
     if (search->position != stream->position) {
         claxon_search_go_on(search, &stream->frames, stream->position);
     }
     status = claxon_search_next(search, claxon_stream_bytes(stream), stream->held, stream->position, stream->has_ended,
                                 &stream->info, &found, &stream->next);
-    from = search->position;
-    if (status == CLAXON_NEED_MORE && stream->position + stream->held - from >= CLAXON_MAX_FRAME_BYTES) {
-        status = claxon_search_next(search, claxon_stream_bytes(stream), stream->held, stream->position, 1, &stream->info,
-                                    &found, &stream->next);
-        if (status == CLAXON_NO_MORE) {
-            claxon_search_go_on(search, &stream->frames, from + CLAXON_MAX_FRAME_BYTES / 2);
-            status = CLAXON_NEED_MORE;
-        }
-    }
     claxon_stream_pass(stream, (status == CLAXON_OK ? found : search->position) - stream->position);
     return status;
 }

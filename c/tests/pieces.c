@@ -299,6 +299,33 @@ static void test_zeros(const uint8_t *bytes, size_t length, uint32_t is_end, uin
            "an endless frame", what);
 }
 
+/* A search isn't held up by it: it goes on 2^23 bytes after its first, where as many bytes are held as a frame may have. */
+static void test_search_of_zeros(const uint8_t *bytes) {
+    const size_t half = 1 << 23;
+    struct claxon_info none;
+    struct claxon_search search;
+    struct claxon_block block;
+    uint64_t found = 0;
+    memset(&none, 0, sizeof none);
+    claxon_search_start(&search, 100);
+    expect(claxon_search_next(&search, bytes, CLAXON_MAX_FRAME_BYTES - 1, 100, 0, &none, &found, &block) == CLAXON_NEED_MORE &&
+               search.position == 100 && search.needed == CLAXON_MAX_FRAME_BYTES,
+           "a search over an endless frame", "a byte less than the most");
+    expect(claxon_search_next(&search, bytes, CLAXON_MAX_FRAME_BYTES, 100, 0, &none, &found, &block) == CLAXON_NEED_MORE &&
+               search.position == 100 + half && search.needed == CLAXON_MAX_FRAME_BYTES - half + 1,
+           "a search over an endless frame", "the most bytes");
+    expect(claxon_search_next(&search, bytes + half, CLAXON_MAX_FRAME_BYTES - half, 100 + half, 0, &none, &found, &block) ==
+                   CLAXON_NEED_MORE &&
+               search.position == 100 + CLAXON_MAX_FRAME_BYTES && search.needed == 2,
+           "a search over an endless frame", "its other half");
+    expect(claxon_search_next(&search, frame, sizeof frame, search.position, 0, &none, &found, &block) == CLAXON_OK &&
+               found == 100 + CLAXON_MAX_FRAME_BYTES,
+           "a search over an endless frame", "the frame after it");
+    claxon_search_start(&search, 100);
+    expect(claxon_search_next(&search, bytes, CLAXON_MAX_FRAME_BYTES, 100, 1, &none, &found, &block) == CLAXON_NO_MORE,
+           "a search over an endless frame", "the end");
+}
+
 /* A frame has to end in as many bytes as a streaminfo can give. */
 static void test_longest(void) {
     const char *longer = "frame longer than 16777215 bytes";
@@ -310,6 +337,7 @@ static void test_longest(void) {
                "a byte less than the most at the end");
     test_zeros(bytes, CLAXON_MAX_FRAME_BYTES, 0, CLAXON_FORMAT_ERROR, longer, "the most bytes");
     test_zeros(bytes, CLAXON_MAX_FRAME_BYTES + 1, 0, CLAXON_FORMAT_ERROR, longer, "a byte more than the most");
+    test_search_of_zeros(bytes);
     free(bytes);
 }
 

@@ -4,8 +4,8 @@ from array import array
 from typing import Callable, Optional
 
 from claxon import _calls
-from claxon._calls import BUFFER_TOO_SMALL, ERROR_SIZE, MAX_FRAME_BYTES, NEED_MORE, NO_MORE, OK
-from claxon._calls import OUT_OF_MEMORY, Info, library
+from claxon._calls import BUFFER_TOO_SMALL, ERROR_SIZE, NEED_MORE, NO_MORE, OK, OUT_OF_MEMORY
+from claxon._calls import Info, library
 from claxon._errors import Error, fault_of, frame_fault_of
 from claxon._samples import converted
 from claxon._types import Block
@@ -223,35 +223,20 @@ class Frames:
         self._lost_at = None
 
     def _find(self, position: ctypes.c_uint64) -> int:
-        """Searches the bytes that are held, and passes those that have no frame. A frame that isn't
-        whole in as many bytes as it may have is passed too. Returns a status.
+        """Searches the bytes that are held, and passes those that have no frame. Returns a
+        status.
         """
-        window, search = self.window, self._search
-        is_end = window.has_ended
-        while True:
-            place = search.position
-            status: int = library.claxon_search_next(
-                search,
-                window.address + window.at.value,
-                window.end - window.at.value,
-                window.position(),
-                is_end,
-                self.info,
-                position,
-                self.found,
-            )
-            if status == NO_MORE and is_end != window.has_ended:
-                library.claxon_search_go_on(search, self._next, place + 1)
-                is_end = window.has_ended
-            elif status == NEED_MORE and self._is_full():
-                is_end = True
-            else:
-                break
-        if status != OK:
-            window.pass_to(search.position)
-        return status
-
-    def _is_full(self) -> bool:
-        """Whether as many bytes are held as a frame may have where the search stands."""
         window = self.window
-        return window.start + window.end - int(self._search.position) >= MAX_FRAME_BYTES
+        status: int = library.claxon_search_next(
+            self._search,
+            window.address + window.at.value,
+            window.end - window.at.value,
+            window.position(),
+            window.has_ended,
+            self.info,
+            position,
+            self.found,
+        )
+        if status != OK:
+            window.pass_to(self._search.position)
+        return status

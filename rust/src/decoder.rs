@@ -1,8 +1,6 @@
 //! A decoder without input of its own.
 use crate::error::{Error, Result};
-use crate::ffi::{
-    self, Clock, Failure, Frames, Info, NextFound, NextFrame, NextSought, Search, Seeker, MAX_FRAME_BYTES,
-};
+use crate::ffi::{self, Clock, Failure, Frames, Info, NextFound, NextFrame, NextSought, Search, Seeker};
 use crate::frame::Block;
 use crate::head::{Head, Part};
 use crate::metadata::{StreamInfo, VorbisComment};
@@ -17,14 +15,6 @@ pub struct Held<'a> {
     pub position: u64,
     /// Whether the stream ends with them.
     pub is_end: bool,
-}
-
-impl Held<'_> {
-    // The number of those from this position on; none where they begin after it.
-    fn count_from(&self, position: u64) -> usize {
-        let passed = position.checked_sub(self.position);
-        passed.map_or(0, |passed| (self.bytes.len() as u64).saturating_sub(passed) as usize)
-    }
 }
 
 /// What a [`Decoder`] says of the bytes that are held.
@@ -330,7 +320,7 @@ impl Decoder {
         self.seek = None;
         self.leave_head();
         let begin = self.begin_search();
-        let found = self.find(held);
+        let found = self.search.next(held, &self.info);
         let position = match found {
             NextFound::Found(position) => position,
             NextFound::NeedMore | NextFound::Nothing | NextFound::Failed(_) => self.search.position,
@@ -357,22 +347,6 @@ impl Decoder {
         self.search.go_on(&mut self.frames, from);
         self.lost = Lost::Skipping(begin);
         begin
-    }
-
-    // Finds the next frame. One that isn't whole in as many bytes as a frame may have is passed.
-    fn find(&mut self, held: Held<'_>) -> NextFound {
-        let mut shown = held;
-        loop {
-            let from = self.search.position;
-            match self.search.next(shown, &self.info) {
-                NextFound::NeedMore if held.count_from(self.search.position) >= MAX_FRAME_BYTES => shown.is_end = true,
-                NextFound::Nothing if shown.is_end != held.is_end => {
-                    self.search.go_on(&mut self.frames, from + 1);
-                    shown = held;
-                }
-                found => return found,
-            }
-        }
     }
 
     // From another position on.

@@ -24,9 +24,6 @@ pub const VERSION: u32 = 300;
 /// No status of the library: it has another interface.
 pub const OTHER_VERSION: u32 = u32::MAX;
 
-/// The maximum number of bytes of a frame that a streaminfo can give: more needn't be held.
-pub const MAX_FRAME_BYTES: usize = 16_777_215;
-
 /// `struct claxon_info`. All zeros mean that nothing is known of the stream.
 #[repr(C)]
 #[derive(Clone, Copy, Debug, Default, PartialEq, Eq)]

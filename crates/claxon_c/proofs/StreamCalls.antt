@@ -4,7 +4,6 @@ use Rattle.std.specs.Prelude.{Result}
 use Rattle.claxon.specs.Errors.{Error}
 use Rattle.claxon.specs.StreamInfos.{StreamInfo}
 use Rattle.claxon_stream.specs.FrameDecoder.{CutIsComplete, EndIsComplete, EventIsOfStream, EventIsSound, FaultIsCharged, FaultIsComplete, FaultIsTimely, FrameIsComplete, FrameIsTimely, KeepsNotes, ReadOnIsComplete, WasteIsInVain}
-use Rattle.claxon_stream.specs.FrameFinder.{FindIsOfStream, FindIsTimely, FindKeepsNotes, FindNeedsMore, FindWasteIsInVain}
 use Rattle.claxon_stream.specs.declared.event.Event.{Event}
 use Rattle.claxon_stream.specs.declared.event.FindEvent.{FindEvent}
 use Rattle.claxon_stream.specs.declared.finder.FrameFinder.{FrameFinder}
@@ -17,7 +16,7 @@ use Rattle.claxon_c.specs.declared.heads.ClaxonInfo.{ClaxonInfo}
 use Rattle.claxon_c.specs.Frames.{IsNextEvent}
 use Rattle.claxon_c.specs.HeldBytes.{says_yes}
 use Rattle.claxon_c.specs.Info.{known_info}
-use Rattle.claxon_c.specs.Search.{IsNextFind}
+use Rattle.claxon_c.specs.Search.{IsFindOfHeld}
 use Rattle.claxon_c.specs.Seeker.{IsNextSeek}
 
 module _ (info : ClaxonInfo) (known : Option StreamInfo) (same : known ≡ known_info info) (at : ℕ) (bytes : List ℕ) (is_end : ℕ) where
@@ -54,21 +53,11 @@ module _ (info : ClaxonInfo) (known : Option StreamInfo) (same : known ≡ known
       })
 
   -- so is one of a search
-  pub next_find : (old : FrameFinder) (event : Result FindEvent Error) (new : FrameFinder)
-      → FindIsOfStream known at bytes (says_yes is_end) old event new
-      → FindNeedsMore at bytes (says_yes is_end) event new
-      → FindKeepsNotes known at bytes (says_yes is_end) old new
-      → FindIsTimely known at bytes (says_yes is_end) old event new
-      → FindWasteIsInVain known at bytes (says_yes is_end) old event new
-      → IsNextFind (known_info info) at bytes is_end old event new
-  next_find old event new stream more notes timely waste =
-      subst (λ (k : Option StreamInfo). IsNextFind k at bytes is_end old event new) same (record {
-        is_of_stream = stream;
-        needs_more = more;
-        keeps_notes = notes;
-        is_timely = timely;
-        waste_is_in_vain = waste;
-      })
+  pub find_of_held : (old : FrameFinder) (event : Result FindEvent Error) (new : FrameFinder)
+      → IsFindOfHeld known at bytes is_end old event new
+      → IsFindOfHeld (known_info info) at bytes is_end old event new
+  find_of_held old event new is =
+      subst (λ (k : Option StreamInfo). IsFindOfHeld k at bytes is_end old event new) same is
 
   -- so is one of a seek
   pub next_seek : (old : Seeker) (event : Result SeekEvent Error) (new : Seeker)

@@ -1,21 +1,33 @@
 //! The next frame of a stream after damage, by bytes that the caller holds and hands in.
-ghost use Rattle.std.specs.Prelude.{◌≡◌};
+ghost use Rattle.std.specs.Prelude.{◌≡◌, ◌+◌, IfSome, length};
+ghost use Rattle.claxon.specs.ShownHead.{HasBitDepth};
+ghost use Rattle.claxon_stream.specs.Event.{needed_after};
 ghost use Rattle.claxon_stream.specs.FrameFinder.{GoesOn};
+ghost use Rattle.claxon_stream.specs.Held.{held_from};
+ghost use Rattle.claxon_stream.specs.HeadDecoder.{PositionFits};
 ghost use Rattle.claxon_c.specs.Search.{
   CFindIsAnswered,
   CFindTooFarIsUnsupported,
+  IsFindOfHeld,
   SearchBegins,
   charged_frames,
+  finds_none,
+  lacks_end,
   needed_search,
 };
 
 use crate::frames::ClaxonFrames;
 use crate::heads::ClaxonInfo;
-use crate::held::position_fits;
+use crate::held::{is_full, position_fits};
 use crate::next_block::ClaxonBlock;
 use crate::status::{NEED_MORE, NO_MORE, OK, OUT_OF_MEMORY, UNSUPPORTED};
-use claxon_stream::{FindEvent, FrameFinder};
+use claxon::Result;
+use claxon::metadata::StreamInfo;
+use claxon_stream::{FindEvent, FrameDecoder, FrameFinder, NeededBytes, held_from};
 use std::alloc::Global;
+
+// Half of the bytes that a frame may have: those that begin before it, and don't end in as many, have more.
+const HALF_OF_A_FRAME: u64 = 1 << 23;
 
 /// A search for frames.
 #[repr(C)]
@@ -52,7 +64,8 @@ pub extern "C" fn claxon_search_go_on(
 }
 
 /// Finds the next frame of the stream, by the bytes that are held: from the position `at` of the stream on, and up to its end if
-/// `is_end` isn't 0.
+/// `is_end` isn't 0. Where a frame doesn't end in as many bytes as a streaminfo can give, they are searched as if the stream ended
+/// with them; if no other is whole there, the search goes on in their second half.
 #[unsafe(no_mangle)]
 pub extern "C" fn claxon_search_next(
     alloc: Global,
@@ -73,7 +86,7 @@ pub extern "C" fn claxon_search_next(
         return UNSUPPORTED;
     }
     let mut finder = search.finder;
-    match finder.find_next(alloc, bytes, at, is_end != 0, info.known_stream()) {
+    match next_find(alloc, &mut finder, bytes, at, is_end, info.known_stream()) {
         Ok(FindEvent::Found(position, frame)) => {
             *search = needed_search(finder, 0);
             *found = position;
@@ -92,6 +105,60 @@ pub extern "C" fn claxon_search_next(
             *search = needed_search(finder, 0);
             OUT_OF_MEMORY
         }
+    }
+}
+
+// What is found in the bytes that are held. A frame that would be longer than one may be isn't waited for.
+fn next_find(
+    alloc: Global,
+    finder: &mut FrameFinder,
+    bytes: &[u8],
+    at: u64,
+    is_end: u32,
+    known: Option<StreamInfo>,
+) -> Result<FindEvent>
+    requires depth { IfSome known (λ info. HasBitDepth info) }
+    requires fits { PositionFits (at + length bytes.now) }
+    ensures { IsFindOfHeld known at bytes.now is_end finder.old result finder.new }
+{
+    let event = finder.find_next(alloc, bytes, at, is_end != 0, known);
+    let position = finder.position();
+    if !lacks_end(&event, is_full(bytes, at, position)) {
+        return event;
+    }
+    let within = finder.find_next(alloc, bytes, at, true, known);
+    if !finds_none(&within) {
+        return within;
+    }
+    let next = position + HALF_OF_A_FRAME;
+    finder.go_on(next, &mut FrameDecoder::new(position));
+    Ok(FindEvent::ReadOn(needed_from(bytes, at, next)))
+}
+
+// Whether bytes are needed, though as many are held as a frame may have.
+fn lacks_end(event: &Result<FindEvent>, is_full: bool) -> bool
+    ensures { result ≡ lacks_end event.now is_full }
+{
+    match event {
+        Ok(FindEvent::ReadOn(_)) => is_full,
+        _ => false,
+    }
+}
+
+fn finds_none(event: &Result<FindEvent>) -> bool
+    ensures { result ≡ finds_none event.now }
+{
+    matches!(event, Ok(FindEvent::NotFound))
+}
+
+// More bytes than are held from this position on.
+fn needed_from(bytes: &[u8], at: u64, position: u64) -> NeededBytes
+    ensures { result ≡ needed_after position (length (held_from at position bytes.now)) }
+{
+    let held = held_from(bytes, at, position).len();
+    NeededBytes {
+        position,
+        count: (held + 1).max(2),
     }
 }
 
