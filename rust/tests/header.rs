@@ -26,5 +26,5 @@ fn numbers_of_the_header() {
             names.push(name);
         }
     }
-    assert_eq!(names.len(), 11, "{names:?}");
+    assert_eq!(names.len(), 10, "{names:?}");
 }
