@@ -37,3 +37,9 @@ returns c =
         };
       };
     }
+
+pub returns-then-not-lacks_end : goal.returns-then-not-lacks_end
+returns-then-not-lacks_end c = grind (arith, common_steps)
+
+pub returns-then-not-finds_none : goal.returns-then-not-finds_none
+returns-then-not-finds_none c = search rules
