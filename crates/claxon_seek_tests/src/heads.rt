@@ -1,7 +1,8 @@
 //! A head in memory, made by the definitions of RFC 9639, section 8.
 use claxon::Error;
+use claxon::metadata::{StreamInfo, VorbisComment};
 use claxon_seek::head_at_start;
-use std::test::Fail;
+use std::alloc::Global;
 
 // The streaminfo, a Vorbis comment, and two bytes more.
 #[rattlefmt::skip]
@@ -12,20 +13,37 @@ const BYTES: [u8; 72] = [
     0x00, 0x00, 0x00, 0x09, 0x00, 0x00, 0x00, 0x54, 0x49, 0x54, 0x4c, 0x45, 0x3d, 0x6f, 0x6e, 0x65, 0xff, 0xf8,
 ];
 
-// The head, and the number of its bytes. One byte less is an error.
-#[test]
-fn head_in_memory(rt: HostRuntime) -> std::result::Result<(), Fail> {
+// Whether these are the head, and the number of its bytes.
+fn is_head(alloc: Global) -> bool {
     let mut taken = 0;
-    let (info, comment) = head_at_start(rt.alloc(), &BYTES, &mut taken)
-        .ok()
-        .ok_or("head")?;
-    assert_eq!(rt; taken, 70);
-    assert_eq!(rt; (info.sample_rate, info.channels), (44_100, 1));
-    assert_eq!(rt; (info.bits_per_sample, info.samples), (8, Some(128)));
-    let comment = comment.ok_or("comment")?;
-    assert_eq!(rt; comment.vendor.as_str(), "abc");
-    assert_eq!(rt; comment.comments.len(), 1);
-    let cut = head_at_start(rt.alloc(), &BYTES[..69], &mut taken);
-    assert!(rt; matches!(cut, Err(Error::IoError(_))));
-    Ok(())
+    match head_at_start(alloc, &BYTES, &mut taken) {
+        Ok((info, Some(comment))) => taken == 70 && is_info(&info) && is_comment(&comment),
+        _ => false,
+    }
+}
+
+fn is_info(info: &StreamInfo) -> bool {
+    info.sample_rate == 44_100
+        && info.channels == 1
+        && info.bits_per_sample == 8
+        && info.samples == Some(128)
+}
+
+fn is_comment(comment: &VorbisComment) -> bool {
+    comment.vendor.as_str() == "abc" && comment.comments.len() == 1
+}
+
+// Whether one byte less is an error.
+fn is_cut(alloc: Global) -> bool {
+    let mut taken = 0;
+    matches!(
+        head_at_start(alloc, &BYTES[..69], &mut taken),
+        Err(Error::IoError(_))
+    )
+}
+
+#[test]
+fn head_in_memory(rt: HostRuntime) {
+    assert!(rt; is_head(rt.alloc()));
+    assert!(rt; is_cut(rt.alloc()));
 }
