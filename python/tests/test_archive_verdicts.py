@@ -145,7 +145,9 @@ class FailedDisk(Kept):
         self.wait_until(lambda: os.path.ismount(self.files) or process.poll() is not None)
         if process.poll() is not None:
             self.skipTest("FUSE can't mount anything here")
-        self.addCleanup(subprocess.call, ["fusermount", "-u", str(self.files)])
+        # Who isn't root mounts by fusermount, which is a package of its own.
+        unmount = ["umount"] if os.getuid() == 0 else ["fusermount", "-u"]
+        self.addCleanup(subprocess.call, [*unmount, str(self.files)])
 
     def test_read_fails(self) -> None:
         """It takes no verdict away, and the next run reads again."""
