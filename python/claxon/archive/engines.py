@@ -22,6 +22,19 @@ class EngineError(Exception):
     """Batches can't be verified any more. The text says why."""
 
 
+class _Gone(Exception):
+    """Dask's scheduler doesn't answer any more."""
+
+
+@contextmanager
+def _connected() -> Iterator[None]:
+    """Around calls that connect to the scheduler, for whose time Dask has an OSError."""
+    try:
+        yield
+    except OSError as error:
+        raise _Gone(str(error)) from error
+
+
 class Engine(ABC):
     """Its futures are those of Python or of Dask, which have the same calls."""
 
@@ -110,7 +123,8 @@ class _Workers(Engine):
 
     def processors(self) -> int:
         if time.monotonic() - self._asked_at > _PAUSE:
-            self._threads = dict(self._client.nthreads())
+            with _connected():
+                self._threads = dict(self._client.nthreads())
             self._asked_at = time.monotonic()
             self._able = frozenset(self._able & self._threads.keys())
             self._try_new()
@@ -203,7 +217,8 @@ class _Workers(Engine):
         except self._errors.late:
             if not future.done():
                 return None
-            future.cancel()
+            with _connected():
+                future.cancel()
             found = Attempt("", None, "", False)
         self._workers_of.pop(future, None)
         if not found.is_able:
@@ -222,7 +237,8 @@ class _Workers(Engine):
 
     def cancel(self, future: Any) -> bool:
         self._workers_of.pop(future, None)
-        future.cancel()
+        with _connected():
+            future.cancel()
         return True
 
     def lost(self, futures: List[Any]) -> List[Any]:
@@ -289,6 +305,7 @@ def _open_cluster(scheduler: str, beside: Optional[str], to_show: ToShow) -> Ite
         distributed.CancelledError,
         RuntimeError,
         CommClosedError,
+        _Gone,
     ) as error:
         raise EngineError(f"{scheduler} is gone, or dropped a batch: {error}") from error
     finally:
