@@ -110,7 +110,7 @@ class Kinds(unittest.TestCase):
             (r"^(an empty file|41 bytes)$", "cut off before the end"),
             (r"^another marker$", "no head of a FLAC file"),
             (r"^an (ID3v1|APE) tag after$|^a tag, unknown", "only a tag after the last frame"),
-            (r"flipped|^bytes between|damage|^a negative shift", "frames can't be decoded"),
+            (r"flipped|^bytes between|^a byte is|damage|^a negative shift", "frames can't be decoded"),
             (r"after", "only other bytes after the last frame"),
         )
         for row in ROWS.values():

@@ -1,5 +1,5 @@
-"""What `claxon verify` has to say of a stream, as far as the slow decoder tells, which stops at the
-first fault: all places of a stream without a fault, and where the first is of others.
+"""What `claxon verify` has to say of a stream, as far as the slow decoder tells: all places, but
+for the names of faults.
 
 It was written from RFC 9639 and docs/man/claxon.1, without claxon's code.
 """
@@ -7,7 +7,7 @@ import dataclasses
 from typing import Any, Dict, List, NamedTuple, Optional, Sequence, Tuple
 
 from fuzzing import slow_decoder
-from fuzzing.slow_decoder import Fault, Frame, Reading, StreamInfo, fits
+from fuzzing.slow_decoder import Fault, Frame, FrameHeader, Reading, StreamInfo, fits
 
 # Application and comment blocks above it are passed over.
 MAX_LENGTH = 10485760
@@ -144,15 +144,23 @@ class Place:
         return self.start, self.end, self.first, self.after, self.what
 
 
-def other_stream(streaminfo: StreamInfo, due: Due, frame: Frame) -> Optional[str]:
-    """Why a frame isn't one of the stream, or None."""
-    header = frame.header
+def other_format(streaminfo: StreamInfo, header: FrameHeader) -> Optional[str]:
+    """How a frame's format differs from the streaminfo's, or None."""
     if header.channels != streaminfo.channels:
         counted = "1 channel" if header.channels == 1 else f"{header.channels} channels"
         return f"{counted}, but the streaminfo says {streaminfo.channels}"
     if header.bit_depth != streaminfo.bits_per_sample:
         counted = "1 bit" if header.bit_depth == 1 else f"{header.bit_depth} bits"
         return f"{counted} per sample, but the streaminfo says {streaminfo.bits_per_sample}"
+    return None
+
+
+def other_stream(streaminfo: StreamInfo, due: Due, frame: Frame) -> Optional[str]:
+    """Why a frame isn't one of the stream, or None."""
+    header = frame.header
+    other = other_format(streaminfo, header)
+    if other is not None:
+        return other
     if header.sample_rate not in (None, streaminfo.sample_rate):
         return f"{header.sample_rate} Hz, but the streaminfo says {streaminfo.sample_rate}"
     if due.strategy not in (None, header.is_variable):
@@ -225,19 +233,50 @@ class Places:
             self.ended.append(self._begun)
 
 
+def frame_at(data: bytes, at: int, streaminfo: StreamInfo) -> Optional[Frame]:
+    """The frame of the stream that begins at this byte, if one does."""
+    if data[at] != 0xFF or data[at + 1 : at + 2] not in (b"\xf8", b"\xf9"):
+        return None
+    try:
+        frame = slow_decoder.read_frame(data[at:], streaminfo.bits_per_sample)
+    except Fault:
+        return None
+    return None if other_format(streaminfo, frame.header) else frame
+
+
+def why_none(data: bytes, at: int, streaminfo: StreamInfo) -> str:
+    """How the format of the header at this byte differs, if there is one, or ""."""
+    try:
+        header = slow_decoder.read_header(data[at:], streaminfo.bits_per_sample)
+    except Fault:
+        return ""
+    return other_format(streaminfo, header) or ""
+
+
 def places_of(
-    streaminfo: StreamInfo, expected: Reading, at: int, end: int
+    data: bytes, at: int, streaminfo: StreamInfo
 ) -> List[Tuple[int, int, int, int, str]]:
-    """The places of a stream whose frames begin at this byte and which ends at another, as far as
-    the first fault."""
+    """The places of a stream whose frames begin at this byte. Damage ends where the next frame
+    begins; what is wrong in it is "". One byte after the last frame is no place."""
     places = Places(streaminfo)
-    for frame in expected.frames:
-        places.add(at, frame)
-        at += frame.length
-    if expected.fault:
-        places.begin(at, "")
-    places.finish(end)
+    while at < len(data):
+        frame = frame_at(data, at, streaminfo)
+        if frame:
+            places.add(at, frame)
+            at += frame.length
+            continue
+        positions = range(at + 1, len(data))
+        end = next((it for it in positions if frame_at(data, it, streaminfo)), len(data))
+        if (at, end) != (len(data) - 1, len(data)):
+            places.begin(at, why_none(data, at, streaminfo))
+        at = end
+    places.finish(len(data))
     return [place.told() for place in places.ended]
+
+
+def are_same(place: Tuple[Any, ...], wanted: Tuple[int, int, int, int, str]) -> bool:
+    """Whether a place is the one that is wanted, whatever its fault is called."""
+    return place[:4] == wanted[:4] and wanted[4] in ("", place[4])
 
 
 def size_note(found: Sequence[Frame]) -> Optional[str]:
@@ -268,16 +307,11 @@ def difference(data: bytes, expected: Reading, found: Dict[str, Any]) -> Optiona
     if expected.streaminfo is None:
         expected = reading_after(data, head)
     streaminfo = head.streaminfo
-    wanted = places_of(streaminfo, expected, head.end, len(data))
+    wanted = places_of(data, head.end, streaminfo)
     keys = "start_byte", "end_byte", "start_sample", "end_sample", "what"
     places = [tuple(place[key] for key in keys) for place in found["places"]]
-    if expected.fault:
-        # What follows the fault may be in the first place too, and change its name.
-        first = places[0] if places else ()
-        if first[:3:2] != wanted[0][:3:2]:
-            return "verify: where the first place is"
-        return "verify: right with a place" if verdict == "ok" else None
-    if places != wanted[: len(places)] or len(wanted) != len(places) + found.get("left_out", 0):
+    is_whole = len(wanted) == len(places) + found.get("left_out", 0)
+    if not is_whole or not all(map(are_same, places, wanted)):
         return "verify: places"
     if wanted:
         return "verify: right with a place" if verdict == "ok" else None

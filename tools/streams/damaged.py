@@ -136,6 +136,7 @@ class Row:
     notes: Tuple[str, ...] = ()
     reason: Optional[str] = None
     stream: Format = PLAIN
+    once: Optional["Row"] = None  # as it is told where it can't be read twice, if it differs
 
     @property
     def verdict(self) -> str:
@@ -361,24 +362,22 @@ def format_rows() -> Iterator[Row]:
         ("two channels", stereo, "1 channel, but the streaminfo says 2"),
         ("16 bits", Format(bits=16), "8 bits per sample, but the streaminfo says 16"),
     ):
-        yield wrong(
-            "a streaminfo of " + name,
-            numbered([0, 1], md5=bytes(16), stream=stream, frames=PLAIN),
-            (2, 32),
-            (42, 64, 0, 32, what),
-            notes=(MD5_NOTE,),
-            stream=stream,
-        )
+        data = numbered([0, 1], md5=bytes(16), stream=stream, frames=PLAIN)
+        name, place = "a streaminfo of " + name, (42, 64, 0, 32, what)
+        once = wrong(name, data, (2, 32), place, notes=(MD5_NOTE,), stream=stream)
+        if stream is fast:
+            yield once
+        else:
+            # In a file only frames of the streaminfo's format are looked for.
+            none = wrong(name, data, (0, 0), place, said=32, notes=(MD5_NOTE,), stream=stream)
+            yield dataclasses.replace(none, once=once)
     three = numbered([0, 1, 2], md5=bytes(16))
     place = 53, 66, 16, 32, "2 channels, but the streaminfo says 1"
     for name, number in ("", 1), (" with another number", 7):
-        yield wrong(
-            "a frame of two channels" + name,
-            three[:53] + frame(number, 2, stream=stereo) + three[64:],
-            (3, 48),
-            place,
-            notes=(MD5_NOTE,),
-        )
+        data = three[:53] + frame(number, 2, stream=stereo) + three[64:]
+        name = "a frame of two channels" + name
+        once = wrong(name, data, (3, 48), place, notes=(MD5_NOTE,))
+        yield wrong(name, data, (2, 32), place, said=48, notes=(MD5_NOTE,), once=once)
     yield wrong(
         "a frame of 48 kHz",
         THREE[:53] + frame(1, 2, stream=fast) + THREE[64:],
@@ -532,6 +531,18 @@ def negative_shift_frame(number: int, sample: int) -> bytes:
     return writer.frame(header, [writer.subframe_header(32) + predictor + residual])
 
 
+def lost_rows() -> Iterator[Row]:
+    """Streams of which a frame is damaged. Of standard input the frame after it is lost too, as the
+    decoder has read its first byte."""
+    for name, data, end, what in (
+        ("a flipped bit of a sync code, odd frames", flipped(THREE, [53]), 64, SYNC),
+        ("a byte is cut out of a frame", THREE[:63] + THREE[64:], 63, CRC),
+        ("a byte is put into a frame", THREE[:61] + b"\0" + THREE[61:], 65, CRC),
+    ):
+        once = wrong(name, data, (1, 16), (53, len(data), 16, 48, what), said=48)
+        yield wrong(name, data, (2, 32), (53, end, 16, 32, what), said=48, once=once)
+
+
 def fault_rows() -> Iterator[Row]:
     """Frames that can't be decoded."""
     places = [
@@ -568,13 +579,6 @@ def fault_rows() -> Iterator[Row]:
         (54, 66, 16, 32, SYNC),
         said=48,
         stream=deep,
-    )
-    yield wrong(
-        "a flipped bit of a sync code, odd frames",
-        flipped(THREE, [53]),
-        (1, 16),
-        (53, 75, 16, 48, SYNC),
-        said=48,
     )
     # The code of 24 bits becomes that of 32 bits: the frame is damaged, since the stream has 24
     # bits.
@@ -706,6 +710,6 @@ def large_rows() -> Iterator[Row]:
 
 def rows() -> Iterator[Row]:
     """All but those of `large_rows`."""
-    parts = right_rows, order_rows, strategy_rows, format_rows, wide_rows, sum_rows
+    parts = right_rows, order_rows, strategy_rows, format_rows, wide_rows, sum_rows, lost_rows
     for part in (*parts, trailing_rows, fault_rows, head_rows, block_rows):
         yield from part()

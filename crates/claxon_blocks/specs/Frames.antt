@@ -61,6 +61,11 @@ abbrev pub FourSay32Bits : FirstBytes → Type 0
 FourSay32Bits first =
     (4 ≤ first.seen) × IsTrue (says_32_bits (number (bits_of (take 4 first.bytes))))
 
+-- The error says that a value is reserved, and the first bytes are of such a header: what was
+-- reserved is the bit depth code for 32 bits.
+abbrev pub IsOf32Bits : Error → FirstBytes → Type 0
+IsOf32Bits error first = IsFault BitDepthReserved error × FourSay32Bits first
+
 -- the decoder's answer, where `block` is the block of what was found
 abbrev pub decoder_answer : {A : Type 0} → (A → BlockValue) → Result (Option A) FrameError
     → FrameAnswer

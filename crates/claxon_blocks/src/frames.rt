@@ -14,7 +14,7 @@ ghost use Rattle.claxon.specs.Header.{says_32_bits};
 ghost use Rattle.claxon.specs.Promises.{FoundIsSound};
 ghost use Rattle.claxon.specs.State.{bytes_in};
 ghost use Rattle.claxon_blocks.specs.Frames.{
-  FourSay32Bits,
+  IsOf32Bits,
   KeepsFirstBytes,
   StreamBlockIsRead,
   StreamBlockOutOfMemoryAfterHeader,
@@ -136,9 +136,9 @@ fn read_from<R: ReadBytes, A: Allocator>(
     frames.read_next_with_info_or_eof(buffer)
 }
 
-// Whether a value is reserved, and the first four bytes begin a header with the bit depth code for 32 bits.
-fn is_32_bit_fault(error: &Error, first: FirstBytes) -> bool
-    ensures { IsTrue result ↔ (IsFault BitDepthReserved error.now × FourSay32Bits first) }
+/// Whether a frame with this error and these first bytes is refused because of the bit depth code for 32 bits.
+pub fn is_32_bit_fault(error: &Error, first: FirstBytes) -> bool
+    ensures is_of_32_bits { IsTrue result ↔ IsOf32Bits error.now first }
 {
     is_reserved_value(error) && first.has_four() && says_32_bits(first.first_four())
 }

@@ -17,7 +17,7 @@ use claxon_verdict::print::{
 use claxon_verdict::tally::Tally;
 use claxon_verdict::verdict::Verdict;
 use claxon_verify::report::Report;
-use claxon_verify::verify;
+use claxon_verify::{verify, verify_parts};
 use std::alloc::Global;
 use std::io::{Cursor, Read, Write};
 use std::rt::Files;
@@ -32,7 +32,7 @@ pub const PROGRAM: Program = Program {
 right: every frame can be decoded, none is missing or repeated, all have the
 channels, bit depth and sample rate of the streaminfo, and the samples are as
 many as it says, and have its MD5 sum. After a fault decoding goes on with the
-bytes after it. A file that isn't right has a line for each place that isn't:
+next frame. A file that isn't right has a line for each place that isn't:
 its bytes, its samples and what is wrong. Bytes A to B are those from A on
 before B, and so are samples. A file that the format allows and claxon doesn't
 decode, as one with an ID3v2 tag in front, or in Ogg or MP4, is not supported,
@@ -390,6 +390,7 @@ where
     BufferedReader::new(rt.alloc(), input)
 }
 
+// Verifies a file: again by its parts, if it has places and can be read again, so that damage ends where the next frame begins.
 // A file in Ogg or MP4 isn't supported by this name.
 fn verify_file<Q: Files + AllocGlobal, I: Read + Copy, E: Write>(
     rt: &Q,
@@ -401,20 +402,52 @@ fn verify_file<Q: Files + AllocGlobal, I: Read + Copy, E: Write>(
 where
     Q::File: Read,
 {
-    let mut input = open_input(rt, name, input)?;
-    let front = front_of(rt.alloc(), &mut input)?;
+    let mut source = open_input(rt, name, input)?;
+    let front = front_of(rt.alloc(), &mut source)?;
     let format = container(front.as_slice());
-    let mut input = BufferedReader::new(rt.alloc(), Cursor::new(front).chain(input))?;
+    let mut source = BufferedReader::new(rt.alloc(), Cursor::new(front).chain(source))?;
     match verify(
         rt.alloc(),
-        &mut input,
+        &mut source,
         options.computes_md5,
         options.more_places,
         progress,
     ) {
         Err(Error::FormatError(_)) if let Some(format) = format => Err(Error::Unsupported(format)),
+        Ok(report) if has_places(&report) && name != STANDARD && !is_no_file(rt, name) => {
+            match verify_again(rt, options, name, input, progress) {
+                Ok(again) if !again.is_right => Ok(again),
+                _ => Ok(report),
+            }
+        }
         answer => answer,
     }
+}
+
+// Whether a stream that could be read has a place that isn't right: a fault may be in any.
+fn has_places(report: &Report) -> bool {
+    report.found.places.first.is_some() && !report.found.notes.has_failed_read
+}
+
+// Verifies a file by its parts.
+fn verify_again<Q: Files + AllocGlobal, I: Read + Copy, E: Write>(
+    rt: &Q,
+    options: Options,
+    name: &str,
+    input: I,
+    progress: &mut Progress<'_, '_, E>,
+) -> claxon::Result<Report>
+where
+    Q::File: Read,
+{
+    let mut source = open(rt, name, input)?;
+    verify_parts(
+        rt.alloc(),
+        &mut source,
+        options.computes_md5,
+        options.more_places,
+        progress,
+    )
 }
 
 // The first bytes of an input: as many as a `BufferedReader` reads. A read that fails is left to be tried again.

@@ -87,8 +87,11 @@ fn right_text(alloc: Global, report: &Report) -> Result<String, AllocError> {
     Ok(text)
 }
 
+// That in damage not each byte was searched: very many headers led to no frame.
+const NOT_SEARCHED: &str = "some bytes weren't searched for frames";
+
 /// What is unusual in a stream, but not wrong, and whether it is so. `size_note` isn't among them.
-pub fn notes(report: &Report) -> [(bool, &'static str); 6] {
+pub fn notes(report: &Report) -> [(bool, &'static str); 7] {
     let notes = report.found.notes;
     [
         (matches!(report.md5, Md5Verdict::Missing), "no MD5 sum"),
@@ -103,6 +106,7 @@ pub fn notes(report: &Report) -> [(bool, &'static str); 6] {
         ),
         (notes.has_byte_left, "1 byte after the last frame"),
         (notes.has_failed_read, "a read failed"),
+        (notes.has_unsearched, NOT_SEARCHED),
     ]
 }
 
@@ -128,6 +132,9 @@ fn wrong_text(alloc: Global, report: &Report, is_brief: bool) -> Result<String, 
     let is_expected = push_expected(&mut text, report)?;
     if report.found.notes.has_failed_read {
         text.push_str(", a read failed")?;
+    }
+    if report.found.notes.has_unsearched {
+        write!(&mut text, ", {NOT_SEARCHED}")?;
     }
     match &report.found.places.first {
         Some(first) => {

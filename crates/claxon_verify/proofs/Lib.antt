@@ -12,6 +12,10 @@ pub mod Keeping
 pub mod Walking
 -- A whole stream: its head, and what was found after it.
 pub mod Verified
+-- Parts of a stream that are found, one after another.
+pub mod PartsWalked
+-- A whole stream that is verified by its parts.
+pub mod PartsVerified
 -- Faults for which a block is passed over are within its content.
 pub mod FaultLengths
 -- A head of which blocks may be passed over, and its reader.

@@ -57,7 +57,7 @@ use Rattle.claxon_verify.proofs.SupportedHeads.{head_found, head_supported}
 head_read : (s : List ℕ) (head : FoundHead) (front bytes : List ℕ) → FoundHeadCode head front → s ≡ front ++ bytes → found_head_at s ≡ Done head bytes
 head_read s head front bytes code joined = ap found_head_at joined ∙ Reads-found_head.again head front bytes code
 
-head_code : (s : List ℕ) (head : FoundHead) (front bytes : List ℕ) → found_head_at s ≡ Done head bytes → s ≡ front ++ bytes → FoundHeadCode head front
+pub head_code : (s : List ℕ) (head : FoundHead) (front bytes : List ℕ) → found_head_at s ≡ Done head bytes → s ≡ front ++ bytes → FoundHeadCode head front
 head_code s head front bytes is joined = let k = Reads-found_head.takes s head bytes is in subst (λ (t : List ℕ). FoundHeadCode head t) (append_cancel_right k.0 front bytes (sym k.2 ∙ joined)) k.1
 
 fault_read : (s : List ℕ) (f : Fault) (at : BeginsWith (FoundHeadFault f) s) → found_head_at s ≡ Faulty f at.1
@@ -171,14 +171,14 @@ verdict_of true info frames has = elim (decide_equal info.md5 no_md5) [
 ]
 
 -- what a hasher tells
-judged_md5 : (computes_md5 : Bool) (info : Streaminfo) (frames : List FrameValue) (hasher : Option Md5) (v : Md5Verdict) → HasHashedBytes computes_md5 (bytes_of_frames info.bit_depth frames) hasher → Md5IsJudged info hasher v → Md5Is computes_md5 info frames v
+pub judged_md5 : (computes_md5 : Bool) (info : Streaminfo) (frames : List FrameValue) (hasher : Option Md5) (v : Md5Verdict) → HasHashedBytes computes_md5 (bytes_of_frames info.bit_depth frames) hasher → Md5IsJudged info hasher v → Md5Is computes_md5 info frames v
 judged_md5 true info frames None v hashed judged = absurd hashed
 judged_md5 true info frames (Some hasher) v hashed judged = judged (bytes_of_frames info.bit_depth frames) hashed
 judged_md5 false info frames None v hashed judged = judged
 judged_md5 false info frames (Some hasher) v hashed judged = absurd cc
 
 -- and its sum
-shown_md5 : (computes_md5 : Bool) (info : Streaminfo) (frames : List FrameValue) (hasher : Option Md5) (sum : Option (List ℕ)) → HasHashedBytes computes_md5 (bytes_of_frames info.bit_depth frames) hasher → Md5IsShown hasher sum → sum ≡ sum_of computes_md5 info frames
+pub shown_md5 : (computes_md5 : Bool) (info : Streaminfo) (frames : List FrameValue) (hasher : Option Md5) (sum : Option (List ℕ)) → HasHashedBytes computes_md5 (bytes_of_frames info.bit_depth frames) hasher → Md5IsShown hasher sum → sum ≡ sum_of computes_md5 info frames
 shown_md5 true info frames None sum hashed shown = absurd hashed
 shown_md5 true info frames (Some hasher) sum hashed shown = shown (bytes_of_frames info.bit_depth frames) hashed
 shown_md5 false info frames None sum hashed shown = shown

@@ -168,14 +168,14 @@ kept_err OutOfMemory io memory h = absurd cc
 
 -- ---- the samples of one frame more
 
-hashed_push : (computes_md5 : Bool) (bit_depth : ℕ) (block : BlockValue) (bytes : List ℕ) (old new : Option Md5) → HasHashedBytes computes_md5 bytes old → HashesToo bit_depth block old new → HasHashedBytes computes_md5 (bytes ++ whole_bytes_of_samples bit_depth (interleave block.channels)) new
+pub hashed_push : (computes_md5 : Bool) (bit_depth : ℕ) (block : BlockValue) (bytes : List ℕ) (old new : Option Md5) → HasHashedBytes computes_md5 bytes old → HashesToo bit_depth block old new → HasHashedBytes computes_md5 (bytes ++ whole_bytes_of_samples bit_depth (interleave block.channels)) new
 hashed_push false bit_depth block bytes None new h k = k
 hashed_push false bit_depth block bytes (Some old) new h k = absurd (let z : Some old ≡ None = h in cc)
 hashed_push true bit_depth block bytes None new h k = absurd h
 hashed_push true bit_depth block bytes (Some old) None h k = absurd k
 hashed_push true bit_depth block bytes (Some old) (Some new) h k = k bytes h
 
-bytes_push : (bit_depth : ℕ) (frames : List FrameValue) (frame : FrameValue) → bytes_of_frames bit_depth (frames ++ frame ∷ []) ≡ bytes_of_frames bit_depth frames ++ whole_bytes_of_samples bit_depth (interleave frame.block.channels)
+pub bytes_push : (bit_depth : ℕ) (frames : List FrameValue) (frame : FrameValue) → bytes_of_frames bit_depth (frames ++ frame ∷ []) ≡ bytes_of_frames bit_depth frames ++ whole_bytes_of_samples bit_depth (interleave frame.block.channels)
 unfolding whole_bytes_of_samples
 bytes_push bit_depth frames frame =
     ap (whole_bytes_of_samples bit_depth) (flat_map-append (λ (f : FrameValue). interleave f.block.channels) frames (frame ∷ []) ∙ ap (λ (zs : List _). samples_of_frames frames ++ zs) (append-nil (interleave frame.block.channels)))

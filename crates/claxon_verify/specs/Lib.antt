@@ -2,5 +2,6 @@ pub mod Kept
 pub mod Places
 pub mod RightStream
 pub mod StreamHead
+pub mod VerifiedParts
 pub mod Verify
 pub mod Walk

@@ -47,12 +47,15 @@ use walk::{ByteRange, Walk, at_end, too_many, trailing, with_fault, with_frame};
 
 mod due;
 mod head;
+mod parts;
 mod places;
 pub mod report;
 mod scan;
 mod sizes;
 pub mod trailing;
 mod walk;
+
+pub use parts::verify_parts;
 
 // The number of bytes that were read, modulo 2^64. A reader keeps it as it keeps a CRC.
 #[derive(Clone, Copy, Drop)]
@@ -184,6 +187,7 @@ fn report_of<A: Allocator>(
     ensures few { length walk.places.places.more.items ≤ walk.places.more
         → length result.found.places.more.items ≤ walk.places.more }
     ensures sizes { result.found.notes.changed_block_size ≡ walk.sizes.changed }
+    ensures searched { result.found.notes.has_unsearched ≡ walk.notes.has_unsearched }
     ensures md5_is_judged { Md5IsJudged (info_view info) walk.md5 result.md5 }
     ensures md5_is_shown { Md5IsShown walk.md5 result.computed_md5 }
     ensures is_right { IsTrue result.is_right ↔ ((unsupported ≡ None)

@@ -126,6 +126,8 @@ pub struct Notes {
     pub has_byte_left: bool,
     /// A read of the source failed.
     pub has_failed_read: bool,
+    /// In damage it wasn't searched everywhere whether a frame begins: too many headers lead to none.
+    pub has_unsearched: bool,
     /// The block size is fixed, but changes: a frame before the last one has another than the first.
     pub changed_block_size: Option<BlockSizes>,
 }

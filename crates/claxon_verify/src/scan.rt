@@ -19,11 +19,14 @@ ghost use Rattle.claxon_verify.specs.Places.{
   returned,
   returns,
   scan_frame,
+  scan_part,
 };
 
 use crate::due::{Due, FoundFrame};
 use crate::report::{Damage, Gap, Place};
 use claxon::metadata::StreamInfo;
+use claxon_blocks::frames::FrameError;
+use std::result;
 
 /// Where a place begins that hasn't ended, and what is wrong there.
 #[derive(Drop)]
@@ -117,6 +120,21 @@ impl Scan {
             return self.returned(info, byte, frame);
         }
         not_ended(self.damaged(byte, Damage::Repeated))
+    }
+
+    /// A frame begins at this byte, or none is decoded there for this cause.
+    pub fn part(
+        self,
+        info: &StreamInfo,
+        byte: u64,
+        what: result::Result<FoundFrame, FrameError>,
+    ) -> Scanned
+        ensures { result ≡ scan_part (info_view info.now) self byte what }
+    {
+        match what {
+            Ok(frame) => self.frame(info, byte, &frame),
+            Err(fault) => not_ended(self.damaged(byte, Damage::Fault(fault))),
+        }
     }
 
     // The frame is the next one that goes on in order, and ends the place that goes on, if one does.

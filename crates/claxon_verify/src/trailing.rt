@@ -28,10 +28,15 @@ impl BytesAfter {
 
     /// The first of more bytes, after the others.
     pub fn with(self, more: FirstBytes) -> BytesAfter {
+        self.with_bytes(more, more.are_zeros())
+    }
+
+    /// More bytes, after the others: the first of them, and whether each is 0.
+    pub fn with_bytes(self, more: FirstBytes, are_zeros: bool) -> BytesAfter {
         let BytesAfter {
             mut first,
             mut seen,
-            are_zeros,
+            are_zeros: were_zeros,
         } = self;
         for byte in more.as_slice() {
             if seen < 8 {
@@ -42,7 +47,7 @@ impl BytesAfter {
         BytesAfter {
             first,
             seen,
-            are_zeros: are_zeros && more.are_zeros(),
+            are_zeros: were_zeros && are_zeros,
         }
     }
 

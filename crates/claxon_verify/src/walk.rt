@@ -60,6 +60,7 @@ impl<A: Allocator> Walk<A> {
     /// Nothing was found so far. So many places are kept after the first.
     pub fn new(alloc: A, computes_md5: bool, more: usize) -> Walk<A>
         ensures begins_walk { BeginsWalk computes_md5 more result }
+        ensures searched { result.notes.has_unsearched ≡ false }
     {
         Walk {
             frames: 0,
@@ -71,6 +72,7 @@ impl<A: Allocator> Walk<A> {
                 has_other_frame_size: false,
                 has_byte_left: false,
                 has_failed_read: false,
+                has_unsearched: false,
                 changed_block_size: None,
             },
             sizes: SizesSoFar::new(),
@@ -97,6 +99,8 @@ pub(crate) fn with_frame<A: Allocator, B: Allocator>(
     requires max_bit_depth { info.bits_per_sample ≤ 32 }
     ensures fits { span.start < 2 ^ 64 }
     ensures ok { IfOk result (AddsFrame (info_view info) frame.now span.start walk) }
+    ensures end { IfOk result (λ more. more.end ≡ span.end) }
+    ensures searched { IfOk result (λ more. more.notes.has_unsearched ≡ walk.notes.has_unsearched) }
     ensures err { IfErr result (ExceedsCount frame.now walk) }
 {
     let duration = frame.block.duration();
@@ -157,7 +161,9 @@ fn with_sizes(
     is_short: bool,
     duration: u32,
     span: ByteRange,
-) -> Notes {
+) -> Notes
+    ensures { result.has_unsearched ≡ notes.has_unsearched }
+{
     let bytes = span.end.wrapping_sub(span.start);
     let is_small = match info.min_frame_size {
         Some(min) => bytes < u64::from(min),

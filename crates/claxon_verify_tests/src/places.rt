@@ -1,9 +1,9 @@
 //! All the places of streams, and their number.
-use crate::reports::{report_of, report_with};
+use crate::reports::{report_by_parts, report_of, report_with};
 use crate::streams::{FIXED, OTHER_RATE, RATE, VARIABLE, frame};
 use crate::verify::{CRC, Found, Wrong, found_of};
 use claxon_testing::answers::{Fault, fault_of, head};
-use claxon_verify::report::Places;
+use claxon_verify::report::{Places, Report, Trailing};
 use linked_list_allocator::LocalHeap;
 use std::alloc::{AllocError, Allocator, Global};
 use std::io::Cursor;
@@ -113,13 +113,28 @@ fn are(places: &Places, wants: &[Found]) -> bool {
     all && places.left_out == 0
 }
 
-// Whether a stream of these parts has these places.
+fn has(report: claxon::Result<Report>, wants: &[Found]) -> bool {
+    match report {
+        Ok(report) => are(&report.found.places, wants),
+        Err(_) => false,
+    }
+}
+
+fn has_by_parts(alloc: Global, bytes: &[u8], wants: &[Found]) -> bool {
+    has(
+        report_by_parts(alloc, &mut Cursor::new(bytes), false),
+        wants,
+    )
+}
+
+// Whether a stream of these parts has these places, also by its parts.
 fn has_places(alloc: Global, info: Info, parts: &[Part], wants: &[Found]) -> bool {
     match bytes_of(alloc, info, parts) {
-        Ok(bytes) => match report_of(alloc, &mut Cursor::new(bytes.as_slice()), false) {
-            Ok(report) => are(&report.found.places, wants),
-            Err(_) => false,
-        },
+        Ok(bytes) => {
+            let bytes = bytes.as_slice();
+            has(report_of(alloc, &mut Cursor::new(bytes), false), wants)
+                && has_by_parts(alloc, bytes, wants)
+        }
         Err(_) => false,
     }
 }
@@ -129,6 +144,65 @@ fn rows(rt: HostRuntime) {
     for (row, (info, parts, wants)) in ROWS.iter().enumerate() {
         assert!(rt; has_places(rt.alloc(), *info, *parts, *wants), "{row}");
     }
+}
+
+// Where bytes of four frames are changed, how many are taken out there, and which are put in; and the places. The frame after
+// the damaged one is told by the parts alone: the decoder has read its first byte when it finds the fault.
+#[rattlefmt::skip]
+const CHANGED: [(usize, usize, &[u8], &[Found]); 6] = [
+    // The last byte of a frame, the last two, and all but its first.
+    (63, 1, &[], &[(53, 63, 16, 32, CRC)]),
+    (62, 2, &[], &[(53, 62, 16, 32, CRC)]),
+    (54, 10, &[], &[(53, 54, 16, 32, Wrong::Fault(Fault::Format("frame sync code missing")))]),
+    // A byte more in a frame, and before one.
+    (61, 0, &[0], &[(53, 65, 16, 32, CRC)]),
+    (53, 0, &[0], &[(53, 54, 16, 16, Wrong::Fault(Fault::Format("frame sync code missing")))]),
+    // The last byte of the last frame.
+    (85, 1, &[], &[(75, 85, 48, 48, Wrong::Fault(Fault::Io))]),
+];
+
+fn has_changed(alloc: Global, at: usize, count: usize, more: &[u8], wants: &[Found]) -> bool {
+    match changed(alloc, at, count, more) {
+        Ok(bytes) => has_by_parts(alloc, bytes.as_slice(), wants),
+        Err(_) => false,
+    }
+}
+
+fn changed(alloc: Global, at: usize, count: usize, more: &[u8]) -> Result<Vec<u8>, AllocError> {
+    let whole = bytes_of(alloc, (16, 0), &[RIGHT_0, RIGHT_1, RIGHT_2, RIGHT_3])?;
+    let whole = whole.as_slice();
+    let mut bytes = Vec::from_slice(alloc, whole.get(..at).unwrap_or(whole))?;
+    bytes.extend_from_slice(more)?;
+    bytes.extend_from_slice(whole.get(at.saturating_add(count)..).unwrap_or(&[]))?;
+    Ok(bytes)
+}
+
+#[test]
+fn damage_up_to_the_next_frame(rt: HostRuntime) {
+    for (row, (at, count, more, wants)) in CHANGED.iter().enumerate() {
+        assert!(rt;
+            has_changed(rt.alloc(), *at, *count, *more, *wants),
+            "{row}"
+        );
+    }
+}
+
+// One byte after the last frame is noted, more are a place, and what they are is said.
+#[test]
+fn bytes_after_the_last_frame(rt: HostRuntime) -> Result<(), Fail> {
+    for (more, wants) in [(&[0u8][..], None), (&[0, 0], Some(Trailing::Zeros))] {
+        let bytes = changed(rt.alloc(), 86, 0, more)?;
+        let report = report_by_parts(rt.alloc(), &mut Cursor::new(bytes.as_slice()), true)?;
+        assert!(rt; report.found.notes.has_byte_left == wants.is_none());
+        assert!(rt; report.found.places.first.is_none() == wants.is_none());
+        assert!(rt;
+            matches!(
+                (report.trailing, wants),
+                (None, None) | (Some(Trailing::Zeros), Some(_))
+            )
+        );
+    }
+    Ok(())
 }
 
 /// The numbers of places after the first that are kept, where so many are wanted, and that are left out.

@@ -52,6 +52,7 @@ const NO_NOTES: Notes = Notes {
     has_other_frame_size: false,
     has_byte_left: false,
     has_failed_read: false,
+    has_unsearched: false,
     changed_block_size: None,
 };
 
@@ -60,6 +61,7 @@ const ALL_NOTES: Notes = Notes {
     has_other_frame_size: true,
     has_byte_left: true,
     has_failed_read: false,
+    has_unsearched: false,
     changed_block_size: Some(BlockSizes {
         first: 4096,
         other: 1024,

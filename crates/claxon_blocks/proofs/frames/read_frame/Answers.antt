@@ -68,7 +68,7 @@ returns-in-Err-clause-tells_of_32_bits g c =
     let first = c.value-first.result in
     let known : length first.bytes ≡ 16 = search rules in
     let size = subst (λ (s : FirstBytes). length s.bytes ≡ 16) c.value-first.ensures known in
-    let said = subst (λ (s : FirstBytes). IsTrue is_32_bit ↔ (IsFault BitDepthReserved error × FourSay32Bits s)) c.value-first.ensures c.is_32_bit_fault-is_32_bit.ensures in
+    let said = subst (λ (s : FirstBytes). IsTrue is_32_bit ↔ (IsFault BitDepthReserved error × FourSay32Bits s)) c.value-first.ensures c.is_32_bit_fault-is_32_bit.ensures.is_of_32_bits in
     let answer : Result (Option ℕ) FrameError = Err (record { error = error; is_32_bit = is_32_bit; first = first }) in
     tells_below g.R.ReadBytes.source update_first _ c.new-input.result c.new-input.ensures.inner answer
     (tells (lent g.R.ReadBytes.source) c.new-input.result read.new.input size error c.new-input.ensures.state c.in-Err.ensures.reads_frame is_32_bit said)

@@ -1,0 +1,226 @@
+//! Streams that are verified by their parts: frames, and the damage between them.
+ghost use Rattle.std.specs.Prelude.{◌≡◌, ◌<◌, ◌≤◌, ◌↔◌, ◌^◌, IfOk, false, length};
+ghost use Rattle.claxon.specs.MetadataBlock.{info_view};
+ghost use Rattle.claxon.specs.ShownHead.{HasBitDepth};
+ghost use Rattle.claxon.specs.State.{bytes_in};
+ghost use Rattle.claxon_command_line.specs.Progress.{StaysQuiet};
+ghost use Rattle.claxon_recovery.specs.Parts.{parts_info, parts_position};
+ghost use Rattle.claxon_verify.specs.VerifiedParts.{
+  AddsDamage,
+  AddsPart,
+  IsWhy,
+  PartsReportIsSound,
+  WalksParts,
+  is_byte_left,
+};
+ghost use Rattle.claxon_verify.specs.Verify.{
+  KeepsAtMost,
+  VerifyIsQuiet,
+  counted_bytes,
+  position_of,
+};
+
+use crate::due::FoundFrame;
+use crate::head::read_head;
+use crate::report::{Notes, Report};
+use crate::scan::Scanned;
+use crate::walk::{ByteRange, Walk, too_many, with_frame};
+use crate::{BytesRead, report_of};
+use claxon::input::ReadBytes;
+use claxon::metadata::StreamInfo;
+use claxon::running::RunningReader;
+use claxon::{Error, Result};
+use claxon_blocks::frames::{FirstBytes, FrameError, is_32_bit_fault};
+use claxon_command_line::progress::Progress;
+use claxon_recovery::{Cause, Damage, Part, Parts};
+use std::alloc::Global;
+use std::io::{self, ErrorKind, Write};
+use std::result;
+
+/// Verifies a stream as `verify` does, but by its parts: where no frame of the stream begins, the next one is searched from the
+/// second byte on, so that damage ends where that frame begins. Frames of another number of channels or another bit depth than
+/// the streaminfo's are damage, and aren't decoded.
+///
+/// # Errors
+///
+/// Those of the head, as `verify` has them, and of `Parts::new` and `Parts::next_part`; `Unsupported` if there are 2^64 samples or
+/// more, or 2^64 - 1 parts or more.
+pub fn verify_parts<R: ReadBytes, E: Write>(
+    alloc: Global,
+    input: &mut R,
+    computes_md5: bool,
+    more: usize,
+    progress: &mut Progress<'_, '_, E>,
+) -> Result<Report>
+    ensures is_sound { PartsReportIsSound computes_md5 (bytes_in R.source input.old) result }
+    ensures keeps_at_most { KeepsAtMost more result }
+    ensures is_quiet { VerifyIsQuiet result progress.old progress.new }
+{
+    let mut input = RunningReader::new(input);
+    verify_counted_parts(alloc, &mut input, computes_md5, more, progress)
+}
+
+// Verifies a stream of which nothing was read.
+fn verify_counted_parts<R: ReadBytes, E: Write>(
+    alloc: Global,
+    input: &mut RunningReader<R, BytesRead>,
+    computes_md5: bool,
+    more: usize,
+    progress: &mut Progress<'_, '_, E>,
+) -> Result<Report>
+    requires { position_of input.old ≡ 0 }
+    ensures is_sound { PartsReportIsSound computes_md5 (counted_bytes R.source input.old) result }
+    ensures keeps_at_most { KeepsAtMost more result }
+    ensures is_quiet { VerifyIsQuiet result progress.old progress.new }
+{
+    let (info, unsupported) = read_head(alloc, input)?;
+    progress.start(info.samples);
+    let start = input.value().bytes;
+    let mut parts = Parts::new(alloc, input, info, start)?;
+    let walk = walk_parts(alloc, &mut parts, info, start, computes_md5, more, progress)?;
+    Ok(report_of(info, unsupported, walk))
+}
+
+// Finds parts up to the end.
+fn walk_parts<R: ReadBytes, E: Write>(
+    alloc: Global,
+    parts: &mut Parts<R>,
+    info: StreamInfo,
+    start: u64,
+    computes_md5: bool,
+    more: usize,
+    progress: &mut Progress<'_, '_, E>,
+) -> Result<Walk<Global>>
+    requires has_bit_depth { HasBitDepth info }
+    requires same_info { parts_info parts.old ≡ info }
+    requires at_start { parts_position parts.old ≡ start }
+    ensures fits { start < 2 ^ 64 }
+    ensures ok { IfOk result (WalksParts R.source computes_md5 info parts.old) }
+    ensures few { IfOk result (λ walk. (walk.places.more ≡ more)
+        × (length walk.places.places.more.items ≤ more)) }
+    ensures stays_quiet { StaysQuiet progress.old progress.new }
+{
+    let mut walk = Walk {
+        end: start,
+        ..Walk::new(alloc, computes_md5, more)
+    };
+    for _ in 0..u64::MAX {
+        let Some(part) = parts.next_part()? else {
+            return Ok(walk);
+        };
+        walk = with_part(walk, info, part)?;
+        progress.show(walk.samples);
+    }
+    Err(too_many())
+}
+
+// A part more.
+fn with_part(walk: Walk<Global>, info: StreamInfo, part: Part) -> Result<Walk<Global>>
+    requires has_bit_depth { HasBitDepth info }
+    ensures adds_part { IfOk result (AddsPart (info_view info) part walk) }
+{
+    match part {
+        Part::Frame(there) => {
+            let (start, end) = (there.start, there.end);
+            with_frame(walk, info, &there.frame, ByteRange { start, end })
+        }
+        Part::Damage(damage) => Ok(with_damage(walk, &info, damage)),
+    }
+}
+
+// Damage more. One byte at the end is noted, if no place goes on.
+fn with_damage(walk: Walk<Global>, info: &StreamInfo, damage: Damage) -> Walk<Global>
+    ensures adds_damage { AddsDamage (info_view info.now) damage walk result }
+{
+    let is_left = is_byte_left(&damage);
+    let Damage {
+        start,
+        end,
+        cause,
+        first,
+        are_zeros,
+        unsearched,
+    } = damage;
+    let Walk {
+        scan,
+        places,
+        notes,
+        after,
+        ..
+    } = walk;
+    let after = after.with_bytes(first, are_zeros);
+    let has_unsearched = or_unsearched(notes.has_unsearched, unsearched);
+    if is_left {
+        let has_byte_left = scan.begun.is_none();
+        return Walk {
+            scan,
+            places,
+            notes: Notes {
+                has_byte_left,
+                has_unsearched,
+                ..notes
+            },
+            after,
+            end,
+            ..walk
+        };
+    }
+    let Scanned { scan, place } = scan.part(info, start, why_none(cause, first));
+    Walk {
+        scan,
+        places: places.with(place),
+        notes: Notes {
+            has_unsearched,
+            ..notes
+        },
+        after,
+        end,
+        ..walk
+    }
+}
+
+// Whether it is so, or there are positions that weren't searched.
+fn or_unsearched(is_so: bool, unsearched: u64) -> bool
+    ensures { (result ≡ false) ↔ ((is_so ≡ false) × (unsearched ≡ 0)) }
+{
+    is_so || unsearched != 0
+}
+
+// Whether it is one byte, at which the stream ends.
+fn is_byte_left(damage: &Damage) -> bool
+    ensures { result ≡ is_byte_left damage.now }
+{
+    matches!(damage.cause, Cause::Cut) && damage.end == damage.start.wrapping_add(1)
+}
+
+// Why no frame of the stream is decoded: an error, or the frame has another format.
+fn why_none(cause: Cause, first: FirstBytes) -> result::Result<FoundFrame, FrameError>
+    ensures { IsWhy cause first result }
+{
+    let (error, is_32_bit) = match cause {
+        Cause::Fault(error) => {
+            let is_32_bit = is_32_bit_fault(&error, first);
+            (error, is_32_bit)
+        }
+        Cause::OtherFormat(header) => {
+            return Ok(FoundFrame {
+                header,
+                duration: header.duration,
+                fits: true,
+            });
+        }
+        Cause::Cut => (
+            Error::IoError(io::Error::from(ErrorKind::UnexpectedEof)),
+            false,
+        ),
+        Cause::TooLong => (Error::FormatError(FRAME_TOO_LONG), false),
+    };
+    Err(FrameError {
+        error,
+        is_32_bit,
+        first,
+    })
+}
+
+// That the first bytes of a frame, as many as are kept, don't tell whether it is one.
+const FRAME_TOO_LONG: &str = "the frame has more bytes than one of the largest block size";
