@@ -185,11 +185,17 @@ pub struct Operands<'a> {
 }
 
 impl<'a> Operands<'a> {
-    ghost use Rattle.claxon_command_line.specs.Arguments.{ParseIsSound, operands_total};
+    ghost use Rattle.claxon_command_line.specs.Arguments.{
+      ParseIs,
+      operands_left,
+      operands_of,
+      operands_total,
+    };
 
     /// The operands among these words, of which the caller has counted so many.
     pub fn new(words: &'a [String], count: usize) -> Operands<'a>
-        ensures { operands_total result ≡ count }
+        ensures operands { operands_left result ≡ operands_of words.now }
+        ensures total { operands_total result ≡ count }
     {
         Operands {
             arguments: Arguments::new(words),
@@ -199,7 +205,7 @@ impl<'a> Operands<'a> {
 
     /// The operands among these words, of which there is one or more, and no option.
     pub fn parse(words: &'a [String]) -> result::Result<Operands<'a>, Notice<'a>>
-        ensures is_sound { ParseIsSound result }
+        ensures parse_is { ParseIs words.now result }
     {
         let mut arguments = Arguments::new(words);
         let mut count = 0usize;
@@ -224,12 +230,14 @@ impl<'a> Operands<'a> {
 }
 
 impl<'a> Iterator for Operands<'a> {
-    ghost use Rattle.std.specs.Iterator.{at_most};
-    ghost use Rattle.claxon_command_line.specs.Arguments.{words_left};
+    ghost use Rattle.std.specs.Iterator.{YieldsFirstRef, item_count};
+    ghost use Rattle.claxon_command_line.specs.Arguments.{operands_left};
 
     type Item = &'a str;
 
-    ghost remaining = { λ s. at_most (words_left s.arguments) };
+    ghost next_gives = { YieldsFirstRef operands_left };
+
+    ghost remaining = { item_count operands_left };
 
     fn next(&mut self) -> Option<&'a str> {
         while let Some(argument) = self.arguments.next() {

@@ -1,0 +1,2 @@
+-- The arguments of a command line, one after another.
+mod CommandLines

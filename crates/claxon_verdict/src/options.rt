@@ -1,5 +1,17 @@
 //! The arguments of the command `verify`: which files, and what is said of them.
-ghost use Rattle.claxon_verdict.specs.Options.{FilesAre, RequestIsSound};
+ghost use Rattle.std.specs.Prelude.{option_copied};
+ghost use Rattle.std.specs.Iterator.{YieldsFirstBy};
+ghost use Rattle.claxon_command_line.specs.Arguments.{TakesWord};
+ghost use Rattle.claxon_verdict.specs.Options.{
+  FilesAre,
+  ListIs,
+  MorePlacesAre,
+  NoticeIsSound,
+  RequestIsSound,
+  WithFlagIs,
+  argument_view,
+  arguments_left,
+};
 
 use crate::print::PrintOptions;
 use claxon_command_line::arguments::{Argument, Arguments, Notice};
@@ -32,11 +44,17 @@ pub struct FileNames<'a> {
 
 impl<'a> FileNames<'a> {
     ghost use Rattle.std.specs.Prelude.{◌≡◌};
-    ghost use Rattle.claxon_verdict.specs.Options.{names_total};
+    ghost use Rattle.claxon_verdict.specs.Options.{
+      arguments_of,
+      names_left,
+      names_total,
+      operands_of,
+    };
 
     // The operands among these words, of which there are so many.
     fn new(words: &'a [String], count: usize) -> FileNames<'a>
-        ensures { names_total result ≡ count }
+        ensures total { names_total result ≡ count }
+        ensures names { names_left result ≡ operands_of (arguments_of words.now) }
     {
         FileNames {
             arguments: Arguments::new(words),
@@ -53,21 +71,19 @@ impl<'a> FileNames<'a> {
 }
 
 impl<'a> Iterator for FileNames<'a> {
-    ghost use Rattle.std.specs.Iterator.{at_most};
-    ghost use Rattle.claxon_command_line.specs.Arguments.{words_left};
+    ghost use Rattle.std.specs.Iterator.{YieldsFirstRef, item_count};
+    ghost use Rattle.claxon_verdict.specs.Options.{names_left};
 
     type Item = &'a str;
 
-    ghost remaining = { λ s. at_most (words_left s.arguments) };
+    ghost next_gives = { YieldsFirstRef names_left };
+
+    ghost remaining = { item_count names_left };
 
     fn next(&mut self) -> Option<&'a str> {
-        while let Some(argument) = self.arguments.next() {
-            match argument {
-                Argument::Operand(name) => return Some(name),
-                Argument::Option("--places") => {
-                    self.arguments.value();
-                }
-                Argument::Option(_) => {}
+        while let Some(argument) = next_argument(&mut self.arguments) {
+            if let VerifyArgument::Operand(name) = argument {
+                return Some(name);
             }
         }
         None
@@ -88,8 +104,14 @@ pub struct Options {
 }
 
 /// What the words ask for. With a list there are no operands, and without one there is one or more.
+///
+/// # Errors
+///
+/// What is printed for the first argument that isn't right, or else the usage line, where the words name no files, or both a
+/// list and files.
 pub fn parse<'a>(words: &'a [String]) -> Result<VerifyRequest<'a>, Notice<'a>>
-    ensures is_sound { RequestIsSound result }
+    ensures request_is_sound { RequestIsSound words.now result }
+    ensures notice_is_sound { NoticeIsSound words.now result }
 {
     let mut arguments = Arguments::new(words);
     let mut options = Options {
@@ -104,44 +126,85 @@ pub fn parse<'a>(words: &'a [String]) -> Result<VerifyRequest<'a>, Notice<'a>>
         more_places: 999,
     };
     let (mut list, mut count) = (None, 0usize);
-    while let Some(argument) = arguments.next() {
+    while let Some(argument) = next_argument(&mut arguments) {
         match argument {
-            Argument::Option("--files0-from") if list.is_none() => match arguments.value() {
-                Some(name) if not_utf8_name(name).is_some() => return Err(Notice::NotUtf8),
-                Some(name) => list = Some(name),
-                None => return Err(Notice::Usage),
-            },
-            Argument::Option("--files0-from") => return Err(Notice::Usage),
-            Argument::Option("--places") => match arguments.value() {
-                Some(number) => options.more_places = more_places(number)?,
-                None => return Err(Notice::Usage),
-            },
-            Argument::Option(option) => options = with_option(options, option)?,
-            Argument::Operand(_) => count = count.saturating_add(1),
+            VerifyArgument::Operand(_) => count = count.saturating_add(1),
+            VerifyArgument::Flag(option) => options = with_flag(options, option)?,
+            VerifyArgument::FilesFrom(value) => list = Some(list_name(list.is_some(), value)?),
+            VerifyArgument::Places(value) => {
+                options.more_places = more_places(value)?;
+            }
         }
     }
     let files = files_of(words, list, count)?;
     Ok(VerifyRequest { files, options })
 }
 
-// How many places are told after the first, where at most so many are: one or more.
-fn more_places<'a>(number: &str) -> Result<usize, Notice<'a>> {
+// An argument. None says that the value of an option is missing.
+#[derive(Clone, Copy)]
+enum VerifyArgument<'a> {
+    Operand(&'a str),
+    Flag(&'a str),
+    FilesFrom(Option<&'a str>),
+    Places(Option<&'a str>),
+}
+
+// The next argument, with the value of an option that has one.
+fn next_argument<'a>(arguments: &mut Arguments<'a>) -> Option<VerifyArgument<'a>>
+    ensures gives { YieldsFirstBy argument_view arguments_left arguments.old result arguments.new }
+    ensures takes_word { TakesWord result arguments.old arguments.new }
+{
+    match arguments.next()? {
+        Argument::Option("--files0-from") => Some(VerifyArgument::FilesFrom(arguments.value())),
+        Argument::Option("--places") => Some(VerifyArgument::Places(arguments.value())),
+        Argument::Option(option) => Some(VerifyArgument::Flag(option)),
+        Argument::Operand(name) => Some(VerifyArgument::Operand(name)),
+    }
+}
+
+// The name of a list by the value of its option, where another was named before or not.
+fn list_name<'a>(has_list: bool, value: Option<&'a str>) -> Result<&'a str, Notice<'a>>
+    ensures list_is { ListIs has_list (option_copied value.entry) result }
+{
+    let Some(name) = value else {
+        return Err(Notice::Usage);
+    };
+    if has_list {
+        return Err(Notice::Usage);
+    }
+    match not_utf8_name(name) {
+        Some(_) => Err(Notice::NotUtf8),
+        None => Ok(name),
+    }
+}
+
+// How many places are told after the first, by the value of `--places`: at most so many in all, one or more.
+fn more_places<'a>(value: Option<&'a str>) -> Result<usize, Notice<'a>>
+    ensures more_places_are { MorePlacesAre (option_copied value.entry) result }
+{
+    let Some(number) = value else {
+        return Err(Notice::Usage);
+    };
     match number.parse::<usize>() {
         Ok(count) if count > 0 => Ok(count - 1),
         _ => Err(Notice::Usage),
     }
 }
 
-// The options, with one more.
-fn with_option<'a>(options: Options, option: &'a str) -> Result<Options, Notice<'a>> {
+// The options, with one more, which has no value.
+fn with_flag<'a>(options: Options, option: &'a str) -> Result<Options, Notice<'a>>
+    ensures with_flag_is { WithFlagIs option.now options result }
+{
     let mut options = options;
     match option {
         "--no-md5" => options.computes_md5 = false,
         "--brief" => options.print.is_brief = true,
         "--json" => options.print.is_json = true,
         "--summary" => options.print.has_summary = true,
-        "-q" | "--quiet" => options.print.is_quiet = true,
-        "-r" | "--recursive" => options.is_recursive = true,
+        "-q" => options.print.is_quiet = true,
+        "--quiet" => options.print.is_quiet = true,
+        "-r" => options.is_recursive = true,
+        "--recursive" => options.is_recursive = true,
         _ => return Err(Notice::of_option(option)),
     }
     Ok(options)
@@ -153,7 +216,7 @@ fn files_of<'a>(
     list: Option<&'a str>,
     count: usize,
 ) -> Result<NamedFiles<'a>, Notice<'a>>
-    ensures files_are { FilesAre list.entry count result }
+    ensures files_are { FilesAre words.now list.entry count result }
 {
     match list {
         Some(name) if count == 0 => Ok(NamedFiles::List(name)),

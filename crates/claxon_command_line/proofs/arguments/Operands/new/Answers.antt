@@ -1,5 +1,0 @@
-use Rattle.std.proofs.Common.{rules}
-use Rattle.claxon_command_line.proofs.arguments.Operands.new.Goals as goal
-
-pub returns : goal.returns
-returns c = search rules
