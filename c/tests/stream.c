@@ -908,7 +908,7 @@ static void test_resync_refused(struct claxon_stream *stream) {
     expect(stream->position == position, "memory", "the position after memory was refused");
 }
 
-/* Decodes, and calls again where memory was refused. */
+/* Decodes after the head, and calls again where memory was refused. */
 static uint32_t decode_refused(struct claxon_stream *stream, const uint8_t *bytes, size_t length, struct tally *tally,
                                size_t *refusals) {
     uint32_t status;
@@ -923,7 +923,7 @@ static uint32_t decode_refused(struct claxon_stream *stream, const uint8_t *byte
                 test_resync_refused(stream);
             }
         }
-    } while (status == CLAXON_OK || (status == CLAXON_OUT_OF_MEMORY && stream->head_status == CLAXON_OK));
+    } while (status == CLAXON_OK || status == CLAXON_OUT_OF_MEMORY);
     return status;
 }
 

@@ -354,12 +354,13 @@ static int test_pausing_call(const char *name, const uint8_t *bytes, size_t leng
     return attempt.source.failure != NULL;
 }
 
-static int test_refused(const char *name, const uint8_t *bytes, size_t length, uint64_t sample, size_t request) {
+static int test_refused(const struct frames *frames, uint64_t sample, size_t request) {
+    const char *name = frames->name;
     struct attempt attempt;
     struct claxon_stream *stream = &attempt.stream;
     int was_refused;
     uint32_t status;
-    begin(&attempt, bytes, length, 1);
+    begin(&attempt, frames->bytes, frames->length, 1);
     requests = 0;
     refused_request = request;
     status = claxon_stream_seek(stream, sample);
@@ -370,13 +371,15 @@ static int test_refused(const char *name, const uint8_t *bytes, size_t length, u
         expect(strcmp(stream->error, "out of memory") == 0, name, "the text where memory was refused");
         expect(claxon_stream_next_block(stream) == CLAXON_READ_FAILED, name, "a block where memory was refused");
     }
-    expect_sample(stream, sample, name);
+    test_sample(stream, frames, sample);
     claxon_stream_free(stream);
     return was_refused;
 }
 
 static void test_failures(const char *name, const uint8_t *bytes, size_t length, uint64_t sample) {
+    struct frames frames = {name, bytes, length, {0}, NULL, 0};
     size_t calls[2] = {1, 1}, request = 1, pause = 1;
+    char error[1];
     for (int knows_end = 0; knows_end <= 1; knows_end++) {
         while (test_failing_call(name, bytes, length, sample, calls[knows_end], knows_end)) {
             calls[knows_end]++;
@@ -386,10 +389,13 @@ static void test_failures(const char *name, const uint8_t *bytes, size_t length,
     while (test_pausing_call(name, bytes, length, sample, pause)) {
         pause++;
     }
-    while (test_refused(name, bytes, length, sample, request)) {
+    expect(claxon_open(bytes, length, &frames.info, error, sizeof error) == CLAXON_OK, name, "the head");
+    find_frames(&frames);
+    while (test_refused(&frames, sample, request)) {
         request++;
     }
     expect(request > 1, name, "the number of requests that were refused");
+    free(frames.frames);
 }
 
 /* The same where headers don't lead to the frame, as its half of the file is the first one. */

@@ -212,6 +212,27 @@ class Borders(SeekCase):
             self.expect_samples(flac, sample, stream)
             self.assertLess(file.given, 1 << 17)
 
+    def test_long_stream(self) -> None:
+        """Of 10 MB too, and all of them for a sample that isn't there."""
+        source = random.Random(9)
+        noise = [source.getrandbits(8 * 16384).to_bytes(16384, "big") for _ in range(640)]
+        frames = [
+            writer.with_crc16(frame_header(16384, number=number) + b"\x02" + block)
+            for number, block in enumerate(noise)
+        ]
+        file = Counted(made_head(16384, 0) + b"".join(frames))
+        flac = claxon.Flac(file)
+        for number in (639, 0, *source.sample(range(640), 50)):
+            file.given = 0
+            self.assertEqual(flac.seek(16384 * number + 77), 77)
+            block = next(flac.blocks())
+            self.assertEqual(block.time, 16384 * number)
+            self.assertEqual(block.planar.tolist(), array("b", noise[number]).tolist())
+            self.assertLess(file.given, 1 << 18)
+        start = time.process_time()
+        self.expect_none(flac, 640 * 16384)
+        self.assertLess(time.process_time() - start, 10)
+
     def test_large_frames(self) -> None:
         """Frames of 260 KB, whose size the streaminfo leaves unknown, or has wrong."""
         source = random.Random(8)

@@ -174,18 +174,22 @@ fn large_frames() {
     }
 }
 
-/// Few bytes are read, whatever the length of the stream.
+/// Few bytes are read, whatever the length of the stream: 2 MB, or 10 MB.
 #[test]
 fn few_reads() {
-    let (made, mut noise) = (Made::new(1000, 4096, 1), Noise(5));
-    let stream = made.stream();
-    let mut flac = FlacReader::new(Counted::new(&stream)).unwrap();
-    let mut given = 0;
-    for _ in 0..100 {
-        made.expect(&mut flac, noise.below(made.samples() as usize) as u64);
-        let all = GIVEN.with(|all| all.get());
-        assert!(all - given < 1 << 18, "{} bytes were read", all - given);
-        given = all;
+    for (count, size, most) in [(1000, 4096, 1 << 18), (1300, 16384, 1 << 19)] {
+        let (made, mut noise) = (Made::new(count, size, 1), Noise(5));
+        let stream = made.stream();
+        assert!(stream.len() > size * count / 3);
+        let mut flac = FlacReader::new(Counted::new(&stream)).unwrap();
+        let mut given = GIVEN.with(|all| all.get());
+        for _ in 0..100 {
+            made.expect(&mut flac, noise.below(made.samples() as usize) as u64);
+            let all = GIVEN.with(|all| all.get());
+            assert!(all - given < most, "{} bytes were read", all - given);
+            given = all;
+        }
+        assert_eq!(flac.seek(made.samples()).unwrap(), None);
     }
 }
 
