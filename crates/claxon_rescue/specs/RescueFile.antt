@@ -1,5 +1,19 @@
 -- The clauses of writing a damaged stream to a file.
-use Rattle.std.specs.Prelude.{◌≡◌, ◌≢◌, ◌/◌, ◌<◌, ℕ, Bool, List, [], length, Option, unwrap_or}
+use Rattle.std.specs.Prelude.{
+  ◌≡◌,
+  ◌≢◌,
+  ◌/◌,
+  ◌<◌,
+  ℕ,
+  Bool,
+  IfOk,
+  List,
+  [],
+  length,
+  Option,
+  Result,
+  unwrap_or,
+}
 use Rattle.std.specs.Io.KnownBytes.{Appends}
 use Rattle.claxon.specs.Frame.{Block}
 use Rattle.claxon.specs.MetadataBlock.{info_view}
@@ -24,6 +38,7 @@ use Rattle.claxon_rescue.specs.RescuedStream.{AreParts, Rescues}
 use Rattle.claxon_rescue.specs.Times.{first_due}
 use Rattle.claxon_rescue.specs.Waiting.{waiting_frames}
 use Rattle.claxon_wav.specs.WaveFile.{block_align, wave_file}
+use Rattle.claxon_wav.specs.declared.error.Error.{Error}
 use Rattle.claxon_wav.specs.declared.header.Layout.{Layout}
 use Rattle.claxon_wav.specs.declared.plan.Plan.{Plan}
 use Rattle.claxon_rescue.specs.declared.rescue.RescueOptions.{RescueOptions}
@@ -66,10 +81,10 @@ pub record IsVerdictOnRescue (computes_md5 : Bool) (info : StreamInfo) (lost : L
   pub whole : missing_in lost ≡ 0 → IsVerdictOn computes_md5 (info_view info) blocks verdict
   pub torn : 0 < missing_in lost → verdict ≡ NotComputed
 
--- An Ok wrote a complete WAV file of the plan's layout with the blocks that are rescued of the
+-- A complete WAV file of the plan's layout was written, with the blocks that are rescued of the
 -- stream's parts, after what the file contained, if its header announced as many bytes; else its
--- header was corrected. It says what is lost.
-pub record RescuesTo {R W : Type 0} (source : R → Source ℕ) (contents : W → Option (List ℕ))
+-- header was corrected. It is said what is lost.
+pub record IsRescuedTo {R W : Type 0} (source : R → Source ℕ) (contents : W → Option (List ℕ))
     (position : W → Option ℕ) (info : StreamInfo) (plan : Plan) (options : RescueOptions)
     (input : Parts R) (old new : W) (rescued : Rescued) : Type 0 where
   pub parts : List Part
@@ -86,3 +101,9 @@ pub record RescuesTo {R W : Type 0} (source : R → Source ℕ) (contents : W �
   pub wrong : first_size plan ≢ length (planned_bytes plan blocks)
       → CorrectsHeader contents position plan.layout (first_size plan) (planned_bytes plan blocks)
       (contents old) (contents new)
+
+-- An Ok did so.
+abbrev pub RescuesTo : {R W : Type 0} → (R → Source ℕ) → (W → Option (List ℕ)) → (W → Option ℕ)
+    → StreamInfo → Plan → RescueOptions → Parts R → W → Result Rescued Error → W → Type 0
+RescuesTo source contents position info plan options input old result new =
+    IfOk result (IsRescuedTo source contents position info plan options input old new)

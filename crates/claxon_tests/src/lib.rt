@@ -31,6 +31,8 @@ mod memory;
 #[cfg(test)]
 mod raw_command;
 #[cfg(test)]
+mod seeks;
+#[cfg(test)]
 mod sources;
 #[cfg(test)]
 mod uses;
