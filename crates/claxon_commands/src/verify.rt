@@ -1,6 +1,7 @@
 //! The command `verify`: whether FLAC files are right.
 use claxon::Error;
 use claxon::input::BufferedReader;
+use claxon::metadata::StreamInfo;
 use claxon_command_line::folders::{
     add_contents, is_flac_name, is_folder, is_no_file, is_real_folder,
 };
@@ -414,7 +415,7 @@ where
         progress,
     ) {
         Err(Error::FormatError(_)) if let Some(format) = format => Err(Error::Unsupported(format)),
-        Ok(report) if has_places(&report) && name != STANDARD && !is_no_file(rt, name) => {
+        Ok(report) if is_worth_parts(&report) && name != STANDARD && !is_no_file(rt, name) => {
             match verify_again(rt, options, name, input, progress) {
                 Ok(again) if !again.is_right => Ok(again),
                 _ => Ok(report),
@@ -424,9 +425,21 @@ where
     }
 }
 
-// Whether a stream that could be read has a place that isn't right: a fault may be in any.
-fn has_places(report: &Report) -> bool {
-    report.found.places.first.is_some() && !report.found.notes.has_failed_read
+// Whether a stream that could be read has a place that isn't right, where a fault may be in any, and its frames are small.
+fn is_worth_parts(report: &Report) -> bool {
+    report.found.places.first.is_some()
+        && !report.found.notes.has_failed_read
+        && has_small_frames(&report.info)
+}
+
+// How many bytes a frame may have in a file that is verified by its parts. So many are held twice, beside the samples of a block:
+// with more, 4 MiB of memory wouldn't do.
+const MAX_FRAME: usize = 512 * 1024;
+
+// Whether a frame of the largest block has no more bytes, though its samples, and those of a side channel, are verbatim.
+fn has_small_frames(info: &StreamInfo) -> bool {
+    let samples = info.max_block_size as usize * info.channels.min(8) as usize;
+    samples * (info.bits_per_sample.min(32) as usize + 1) / 8 <= MAX_FRAME
 }
 
 // Verifies a file by its parts.
