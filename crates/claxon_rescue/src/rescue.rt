@@ -66,7 +66,7 @@ pub fn rescue_file<R: ReadBytes, W: Write + Seek, E: Write>(
     requires is_plan_for { IsPlanFor info plan }
     requires same_info { parts_info parts.old ≡ info }
     requires at_start { parts_position parts.old ≡ options.start }
-    ensures rescues_to { RescuesTo R.source W.contents W.stream_position info plan options
+    ensures rescues_to { RescuesTo R.source W.contents W.stream_position plan options
         parts.old file.old result file.new }
     ensures same_errors { SameErrors progress.old progress.new }
 {

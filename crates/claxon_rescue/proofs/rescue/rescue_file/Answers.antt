@@ -3,6 +3,7 @@ use Rattle.claxon.specs.ShownHead.{HasBitDepth}
 use Rattle.claxon.specs.StreamInfos.{StreamInfo}
 use Rattle.claxon_recovery.specs.Parts.{SourceIsKnown, unread}
 use Rattle.claxon_rescue.specs.Losses.{HasNoted}
+use Rattle.claxon_rescue.specs.RescueFile.{IsVerdictOnRescue, rules_of}
 use Rattle.claxon_rescue.specs.RescuedStream.{AreParts, Rescues}
 use Rattle.claxon_rescue.specs.declared.due.Rules.{Rules}
 use Rattle.claxon_rescue.specs.declared.losses.Losses.{Losses}
@@ -53,14 +54,17 @@ returns-clause-rescues_to g c =
     let n = corrected_file contents plan given.blocks c.new-wav.result c.start.new.self c.write.new.wav fresh.layout_is g.W.Seek.stream_position all.put c.unwrap_or.result c.unwrap_or.ensures begins given.puts all.ends in
     let m = rw (← w, fresh.counts.writer) at n in
     let left = c.file-2-1.given.1 e in
+    let info_is = sym c.requires.same_info in
+    let kept = given.lost in
+    let judged = c.rescued_of.result.conversion.md5 in
     record {
       parts = given.parts;
       blocks = given.blocks;
       lost = given.lost;
-      are_parts = subst (λ (i : StreamInfo). SourceIsKnown g.R.ReadBytes.source c.args.parts.now → AreParts i options.start (unread g.R.ReadBytes.source c.args.parts.now) given.parts []) same given.are_parts;
-      rescues = subst (λ (r : Rules). Rescues r options.start given.parts given.blocks given.lost) rules_are given.rescues;
+      are_parts = subst (λ (i : StreamInfo). SourceIsKnown g.R.ReadBytes.source c.args.parts.now → AreParts i options.start (unread g.R.ReadBytes.source c.args.parts.now) given.parts []) (same ∙ info_is) given.are_parts;
+      rescues = subst (λ (i : StreamInfo). Rescues (rules_of i plan.layout options) options.start given.parts given.blocks kept) info_is (subst (λ (r : Rules). Rescues r options.start given.parts given.blocks given.lost) rules_are given.rescues);
       samples_are = is.samples_are ∙ c.samples-samples.ensures ∙ count;
-      verdict = verdict_on plan.computes_md5 c.args.info c.rules_of-rules.result given.lost given.blocks c.in_ok-rescue.rescue.md5 c.write.new.self.md5 c.rescued_of.result.conversion.md5 same begun.hashed given.hashes is.judged;
+      verdict = subst (λ (i : StreamInfo). IsVerdictOnRescue plan.computes_md5 i kept given.blocks judged) info_is (verdict_on plan.computes_md5 c.args.info c.rules_of-rules.result given.lost given.blocks c.in_ok-rescue.rescue.md5 c.write.new.self.md5 judged same begun.hashed given.hashes is.judged);
       noted = subst (λ (l : Losses). HasNoted options.max_ranges given.lost l) (sym is.losses_are) (given.notes options.max_ranges [] begun.noted);
       right = λ same. subst (λ (x : g.row.W.Denot). Appends (contents c.args.file.now) (contents x) (wave_file plan.layout (planned_bytes plan given.blocks))) (sym left) (j same);
       wrong = λ differ. search std_rules;
