@@ -8,10 +8,14 @@ pub mod Scanning
 pub mod RightPlaces
 -- Places that are kept, one after another.
 pub mod Keeping
+-- What is noted of frames and faults, one after another.
+pub mod Noting
 -- Frames and faults that are found, one after another.
 pub mod Walking
 -- A whole stream: its head, and what was found after it.
 pub mod Verified
+-- The notes of a whole stream.
+pub mod Noted
 -- Parts of a stream that are found, one after another.
 pub mod PartsWalked
 -- A whole stream that is verified by its parts.

@@ -75,19 +75,19 @@ has_neither s is = record {
 -- ---- what was counted, as said of the whole stream
 
 -- the byte at which the counting began
-restart : (p q n byte : ℕ) → q % 2 ^ 64 ≡ p % 2 ^ 64 → byte ≡ (q + n) % 2 ^ 64 → byte ≡ (p + n) % 2 ^ 64
+pub restart : (p q n byte : ℕ) → q % 2 ^ 64 ≡ p % 2 ^ 64 → byte ≡ (q + n) % 2 ^ 64 → byte ≡ (p + n) % 2 ^ 64
 restart p q n byte e f = omega arith
 
-ends_weaker : (failed more : Type 0) (stream : Option StreamFormat) (w : failed → more) (is_cut : Bool) (rest : List ℕ) → EndsAt failed stream is_cut rest → EndsAt more stream is_cut rest
+pub ends_weaker : (failed more : Type 0) (stream : Option StreamFormat) (w : failed → more) (is_cut : Bool) (rest : List ℕ) → EndsAt failed stream is_cut rest → EndsAt more stream is_cut rest
 ends_weaker failed more stream w false rest h = h
 ends_weaker failed more stream w true rest h = elim h [ inl n ↦ inl n | inr f ↦ inr (w f) ]
 
-last_from : (is_cut : Bool) (p q n : ℕ) (rest : List ℕ) (found : List FoundPart) → q % 2 ^ 64 ≡ p % 2 ^ 64 → LastFound is_cut (q + n) rest found → LastFound is_cut (p + n) rest found
+pub last_from : (is_cut : Bool) (p q n : ℕ) (rest : List ℕ) (found : List FoundPart) → q % 2 ^ 64 ≡ p % 2 ^ 64 → LastFound is_cut (q + n) rest found → LastFound is_cut (p + n) rest found
 last_from false p q n rest found at h = h
 last_from true p q n rest found at h = (h.0, h.1, h.2, restart p q n h.0.start at h.3, h.4, h.5, h.6)
 
 -- the same frames and faults, counted from an equal byte
-counted_from : {failed more : Type 0} {stream : Option StreamFormat} {info : Streaminfo} (w : failed → more) (p q : ℕ) → q % 2 ^ 64 ≡ p % 2 ^ 64 → (s : List ℕ) (counts : Counts) → (h : Counted failed stream info q s counts) → (c : Counted more stream info p s counts) × (c.parts ≡ h.parts)
+unfoldable pub counted_from : {failed more : Type 0} {stream : Option StreamFormat} {info : Streaminfo} (w : failed → more) (p q : ℕ) → q % 2 ^ 64 ≡ p % 2 ^ 64 → (s : List ℕ) (counts : Counts) → (h : Counted failed stream info q s counts) → (c : Counted more stream info p s counts) × (c.parts ≡ h.parts)
 counted_from {failed = failed} {more = more} {stream = stream} {info = info} w p q at s counts h = (
   record {
     parts = h.parts;
@@ -432,7 +432,7 @@ head_consumed a m shown start consumed bounds at = record {
 }
 
 module _ {a m : State ℕ} (b : State ℕ) {head : FoundHead} {stream : Option StreamFormat} {start : ℕ} (h : HeadIsConsumed a m head stream start) where
-  failed_since : ReadFailedIn m b → ReadFailedIn a b
+  pub failed_since : ReadFailedIn m b → ReadFailedIn a b
   failed_since f = elim f [ inl n ↦ inl (λ e. n (e ∙ sym h.errors)) | inr n ↦ inr (λ e. n.0 (e ∙ sym h.empty_reads), n.1) ]
 
   -- any head that the bytes begin with is the one that was read

@@ -32,6 +32,7 @@ use Rattle.claxon_verify.specs.Kept.{AreKept, Keeps}
 use Rattle.claxon_verify.specs.Places.{FoundPart, Scans, begun_scan, damaged, list_of, places_at, scan_frame, scan_more, scan_parts}
 use Rattle.claxon_verify.specs.Verify.{CanBeCounted, FrameOrFault, FrameOrFaultBytes, FramesAndFaults, IsTooMany, PartsFound, StopsCounting, counted_bytes, fault_count_of, frame_count_of, frames_of, position_of, sample_count_of}
 use Rattle.claxon_blocks.specs.Frames.{IsNotWhole}
+use Rattle.claxon_verify.specs.Notes.{NotesEnd, NotesFault, NotesFrame, NothingNoted, WalkIsNoted}
 use Rattle.claxon_verify.specs.Walk.{AddsFault, AddsFrame, AreSizesOf, BeginsWalk, EndsWalk, ExceedsCount, WalksToEnd}
 use Rattle.claxon_blocks.specs.HashBlock.{HashesToo}
 use Rattle.claxon_blocks.specs.Md5Verdict.{HasHashedBytes}
@@ -46,6 +47,7 @@ use Rattle.claxon_verify.specs.declared.walk.Walk.{Walk}
 use Rattle.claxon_blocks.proofs.BlockReads.{BlockIsRead, IfConsumed, block_read}
 use Rattle.claxon_verify.proofs.BlockSizes.{changed_of}
 use Rattle.claxon_verify.proofs.FramesAndFaults.{parts_front, parts_push}
+use Rattle.claxon_verify.proofs.Noting.{NotedSoFar, fault_so_far, frame_so_far, not_so, nothing_so_far, one_left}
 use Rattle.claxon_verify.proofs.Scanning.{found_push, scan_push}
 
 -- ---- the position
@@ -124,6 +126,7 @@ pub record SoFar {A : Type 0} (computes_md5 : Bool) (stream : Option StreamForma
   pub places : List Place
   pub scan : scan_parts info (record { scan = begun_scan; places = [] }) found ≡ record { scan = walk.scan; places = places }
   pub keeps : Keeps places walk.places
+  pub noted : NotedSoFar stream info s m parts walk
 
 -- So far no read of the source failed.
 pub record WalkedSoFar {A : Type 0} (computes_md5 : Bool) (stream : Option StreamFormat) (info : Streaminfo) (start : ℕ) (a b : State ℕ) (count : ℕ) (walk : Walk A) : Type 0 where
@@ -134,9 +137,9 @@ pub record WalkedSoFar {A : Type 0} (computes_md5 : Bool) (stream : Option Strea
   pub values : RemainingIsKnown a → final_values b ≡ final_values a
   pub is : RemainingIsKnown a → SoFar computes_md5 stream info start a.remaining b.remaining count walk
 
-pub none_so_far : {A : Type 0} (computes_md5 : Bool) (stream : Option StreamFormat) (info : Streaminfo) (start more : ℕ) (a : State ℕ) (walk : Walk A) → BeginsWalk computes_md5 more walk → WalkedSoFar computes_md5 stream info start a a 0 walk
+pub none_so_far : {A : Type 0} (computes_md5 : Bool) (stream : Option StreamFormat) (info : Streaminfo) (start more : ℕ) (a : State ℕ) (walk : Walk A) → BeginsWalk computes_md5 more walk → NothingNoted walk → WalkedSoFar computes_md5 stream info start a a 0 walk
 unfolding whole_bytes_of_samples
-none_so_far computes_md5 stream info start more a walk begins = record {
+none_so_far computes_md5 stream info start more a walk begins none = record {
   errors = refl;
   empty_reads = refl;
   loans = refl;
@@ -156,6 +159,7 @@ none_so_far computes_md5 stream info start more a walk begins = record {
     places = [];
     scan = ap (λ (z : Scan). record { scan = z; places = [] }) (sym begins.scan_is);
     keeps = begins.keeps;
+    noted = nothing_so_far stream info a.remaining walk none;
   };
 }
 
@@ -180,6 +184,10 @@ unfolding whole_bytes_of_samples
 bytes_push bit_depth frames frame =
     ap (whole_bytes_of_samples bit_depth) (flat_map-append (λ (f : FrameValue). interleave f.block.channels) frames (frame ∷ []) ∙ ap (λ (zs : List _). samples_of_frames frames ++ zs) (append-nil (interleave frame.block.channels)))
     ∙ flat_map-append _ (samples_of_frames frames) (interleave frame.block.channels)
+
+-- The position moved past what was consumed.
+abbrev pub Moves : State ℕ → State ℕ → ℕ → ℕ → Type 0
+Moves b c byte end = RemainingIsKnown b → RemainingIsKnown c → final_values c ≡ final_values b → (t : List ℕ) → b.remaining ≡ t ++ c.remaining → end % 2 ^ 64 ≡ (byte + length t) % 2 ^ 64
 
 -- ---- one part more
 
@@ -239,8 +247,8 @@ module _ {A : Type 0} {computes_md5 : Bool} {stream : Option StreamFormat} {info
       (q.0, q.1, omega arith)
 
   pub frame_added : {B : Type 0} {more : Walk A} (frame : DecodedFrame B) (byte : ℕ) (c : State ℕ) → count + 1 < 2 ^ 64 → (RemainingIsKnown a → (front : List ℕ) → a.remaining ≡ front ++ b.remaining → byte ≡ (start + length front) % 2 ^ 64) → BlockIsRead stream (Ok (Some frame.block)) b c
-      → Consumed b c (FrameWithHeader stream (decoded_view frame)) → AddsFrame info frame byte walk more → WalkedSoFar computes_md5 stream info start a c (count + 1) more
-  frame_added {more = more} frame byte c bound at read consumed adds =
+      → Consumed b c (FrameWithHeader stream (decoded_view frame)) → AddsFrame info frame byte walk more → byte < 2 ^ 64 → {end : ℕ} → Moves b c byte end → NotesFrame info frame byte end walk more → WalkedSoFar computes_md5 stream info start a c (count + 1) more
+  frame_added {more = more} frame byte c bound at read consumed adds fits moves notes =
       let part : FrameOrFault = Ok (decoded_view frame) in
       let scanned = scan_frame info byte adds.found walk.scan in
       record {
@@ -268,6 +276,7 @@ module _ {A : Type 0} {computes_md5 : Bool} {stream : Option StreamFormat} {info
               places = p.places ++ list_of scanned.place;
               scan = scan_with info p.found (record { start = byte; what = Ok adds.found }) walk.scan p.places p.scan ∙ ap (λ (z : Scan). record { scan = z; places = p.places ++ list_of scanned.place }) (sym adds.scan_is);
               keeps = adds.places.keeps p.places p.keeps;
+              noted = frame_so_far p.noted w.0 c.remaining w.2 w.1 fits (moves (h.known k) (consumed (h.known k)).0 (read.kept.2 (h.known k)) w.0 w.2) notes (frames_of-append p.parts (part ∷ []));
             };
       }
 
@@ -314,10 +323,29 @@ module _ {A : Type 0} {computes_md5 : Bool} {stream : Option StreamFormat} {info
         subst (HasHashedBytes computes_md5 (bytes_of_frames info.bit_depth (frames_of p.parts))) (sym ends.md5_is) p.hashed,
       )
 
+  pub eof_noted : {more : Walk A} (byte end : ℕ) (c : State ℕ) → count + 1 < 2 ^ 64 → BlockIsRead stream (Ok None) b c → (RemainingIsKnown a → (front : List ℕ) → a.remaining ≡ front ++ b.remaining → byte ≡ (start + length front) % 2 ^ 64) → (RemainingIsKnown a → end ≡ (start + length a.remaining) % 2 ^ 64) → EndsWalk end walk more → NotesEnd byte end walk more → WalkIsNoted stream info start a c more
+  unfolding eof_found
+  eof_noted {more = more} byte end c bound read at at_end ends notes k counts counted =
+      let p = h.is k in
+      let q = part_at k in
+      let begun = ap (λ (z : Scans). z.scan.begun) p.scan in
+      let all : end ≡ (start + (length q.0 + length b.remaining)) % 2 ^ 64 = at_end k ∙ ap (λ (n : ℕ). (start + n) % 2 ^ 64) (ap length q.1 ∙ length-append q.0 b.remaining) in
+      let left = one_left start (length q.0) byte end b.remaining (at k q.0 q.1) all (read.eof refl (h.known k)) in (
+        (eof_found end c bound read at_end ends k counts counted).0,
+        record {
+          block_size = notes.block_size ∙ p.noted.noted.block_size;
+          sizes = p.noted.sizes;
+          sizes_are = p.noted.sizes_are;
+          frame_size = notes.frame_size ∙ p.noted.noted.frame_size;
+          byte_left = (λ t. let e = notes.byte_left.0 t in (refl, left.0 e.0, begun ∙ e.1), λ x. notes.byte_left.1 (left.1 x.1, sym begun ∙ x.2));
+          failed_read = not_so more.notes.has_failed_read (notes.failed_read ∙ p.noted.none_failed) (λ x. x);
+        },
+      )
+
   module _ {byte end : ℕ} (at : RemainingIsKnown a → (front : List ℕ) → a.remaining ≡ front ++ b.remaining → byte ≡ (start + length front) % 2 ^ 64) where
     pub fault_added : {more : Walk A} (fault : FrameError) (c : State ℕ) → BlockIsRead stream (Err fault.error) b c → (RemainingIsKnown b → IsTrue fault.is_32_bit ↔ Is32BitFault b.remaining fault.error) → is_io fault.error ≡ false → is_out_of_memory fault.error ≡ false → AddsFault fault byte end walk more
-        → WalkedSoFar computes_md5 stream info start a c (count + 1) more
-    fault_added {more = more} fault c read is_32_bit io memory adds =
+        → NotesFault fault.error walk more → WalkedSoFar computes_md5 stream info start a c (count + 1) more
+    fault_added {more = more} fault c read is_32_bit io memory adds notes =
         let error = fault.error in
         let kept = kept_err error io memory read.kept in
         record {
@@ -347,6 +375,7 @@ module _ {A : Type 0} {computes_md5 : Bool} {stream : Option StreamFormat} {info
                 places = p.places;
                 scan = scan_fault info p.found byte fault walk.scan more.scan p.places p.scan adds.scan_is;
                 keeps = subst (λ (z : KeptPlaces A). Keeps p.places z) (sym adds.places_are) p.keeps;
+                noted = fault_so_far p.noted w.0 c.remaining w.2 f.0 error w.1 io notes frames_are;
               };
         }
 
@@ -382,6 +411,21 @@ module _ {A : Type 0} {computes_md5 : Bool} {stream : Option StreamFormat} {info
             kept = subst (λ (z : Scans). AreKept (places_at more.end info.samples z) counts.first counts.more counts.left_out) (sym scan) (counted.kept p.places (subst (λ (z : KeptPlaces A). Keeps p.places z) (sym adds.places_are) p.keeps));
           },
           subst (HasHashedBytes computes_md5 (bytes_of_frames info.bit_depth (frames_of p.parts))) (sym adds.md5_is) p.hashed,
+        )
+
+    pub cut_noted : {more : Walk A} (fault : FrameError) (c : State ℕ) → count + 1 < 2 ^ 64 → BlockIsRead stream (Err fault.error) b c → (RemainingIsKnown b → IsTrue fault.is_32_bit ↔ Is32BitFault b.remaining fault.error) → IsIo fault.error → AddsFault fault byte end walk more → NotesFault fault.error walk more → WalkIsNoted stream info start a c more
+    unfolding cut_found
+    cut_noted {more = more} fault c bound read is_32_bit io adds notes k counts counted =
+        let n = (h.is k).noted in (
+          (cut_found fault c bound read is_32_bit io adds k counts counted).0,
+          record {
+            block_size = notes.block_size ∙ n.noted.block_size;
+            sizes = n.sizes;
+            sizes_are = n.sizes_are;
+            frame_size = notes.frame_size ∙ n.noted.frame_size;
+            byte_left = not_so more.notes.has_byte_left (notes.byte_left ∙ n.none_left) (λ x. let z : true ≡ false = x.0 in cc);
+            failed_read = (λ t. elim (notes.failed_read.0 t) [ inl failed ↦ absurd (let z : false ≡ true = sym n.none_failed ∙ failed in cc) | inr failed ↦ failed ], λ failed. notes.failed_read.1 (inr failed));
+          },
         )
 
   -- ---- what can't be counted

@@ -1,4 +1,5 @@
 pub mod Kept
+pub mod Notes
 pub mod Places
 pub mod RightStream
 pub mod StreamHead

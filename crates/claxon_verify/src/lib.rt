@@ -8,6 +8,7 @@ ghost use Rattle.claxon.specs.MetadataBlock.{info_view, or_zero};
 ghost use Rattle.claxon.specs.State.{bytes_in};
 ghost use Rattle.claxon_command_line.specs.Progress.{StaysQuiet};
 ghost use Rattle.claxon_verify.specs.Kept.{AreKept, Keeps};
+ghost use Rattle.claxon_verify.specs.Notes.{NotesAreExact, WalkIsNoted};
 ghost use Rattle.claxon_verify.specs.Places.{places_at};
 ghost use Rattle.claxon_verify.specs.Verify.{
   KeepsAtMost,
@@ -115,6 +116,8 @@ pub fn verify<R: ReadBytes, A: Allocator + Copy, E: Write>(
         (bytes_in R.source input.new) }
     ensures places_are_counted { PlacesAreCounted computes_md5 (bytes_in R.source input.old) result
         (bytes_in R.source input.new) }
+    ensures notes_are_exact { NotesAreExact (bytes_in R.source input.old) result
+        (bytes_in R.source input.new) }
     ensures keeps_at_most { KeepsAtMost more result }
     ensures fault_is_sound { VerifyFaultIsSound (bytes_in R.source input.old) result
         (bytes_in R.source input.new) }
@@ -139,6 +142,8 @@ fn verify_exact<R: ReadBytes, A: Allocator + Copy, E: Write>(
         (bytes_in R.source input.new) }
     ensures places_are_counted { PlacesAreCounted computes_md5 (bytes_in R.source input.old) result
         (bytes_in R.source input.new) }
+    ensures notes_are_exact { NotesAreExact (bytes_in R.source input.old) result
+        (bytes_in R.source input.new) }
     ensures keeps_at_most { KeepsAtMost more result }
     ensures is_quiet { VerifyIsQuiet result progress.old progress.new }
 {
@@ -159,6 +164,8 @@ fn verify_counted<R: ReadBytes, A: Allocator + Copy, E: Write>(
         (counted_bytes R.source input.new) }
     ensures places_are_counted { PlacesAreCounted computes_md5 (counted_bytes R.source input.old)
         result (counted_bytes R.source input.new) }
+    ensures notes_are_exact { NotesAreExact (counted_bytes R.source input.old) result
+        (counted_bytes R.source input.new) }
     ensures keeps_at_most { KeepsAtMost more result }
     ensures is_quiet { VerifyIsQuiet result progress.old progress.new }
     ensures loans { (counted_bytes R.source input.new).source.loans
@@ -188,6 +195,8 @@ fn report_of<A: Allocator>(
         → length result.found.places.more.items ≤ walk.places.more }
     ensures sizes { result.found.notes.changed_block_size ≡ walk.sizes.changed }
     ensures searched { result.found.notes.has_unsearched ≡ walk.notes.has_unsearched }
+    ensures notes { result.found.notes
+        ≡ (record walk.notes { changed_block_size = walk.sizes.changed }) }
     ensures md5_is_judged { Md5IsJudged (info_view info) walk.md5 result.md5 }
     ensures md5_is_shown { Md5IsShown walk.md5 result.computed_md5 }
     ensures is_right { IsTrue result.is_right ↔ ((unsupported ≡ None)
@@ -260,6 +269,9 @@ fn walk_frames<R: ReadBytes, A: Allocator + Copy, E: Write>(
         (counted_bytes R.source input.old) (counted_bytes R.source input.new)) }
     ensures few { IfOk result (λ walk. (walk.places.more ≡ more)
         × (length walk.places.places.more.items ≤ more)) }
+    ensures notes { IfOk result (WalkIsNoted (Some (stream_with info)) (info_view info)
+        (position_of input.old)
+        (counted_bytes R.source input.old) (counted_bytes R.source input.new)) }
     ensures err { IfErr result (StopsCounting (Some (stream_with info))
         (counted_bytes R.source input.old)) }
     ensures stays_quiet { StaysQuiet progress.old progress.new }

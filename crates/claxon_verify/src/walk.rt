@@ -1,7 +1,15 @@
 //! What is found in a stream, frame by frame.
-ghost use Rattle.std.specs.Prelude.{◌≡◌, ◌≤◌, ◌+◌, ◌^◌, ◌<◌, IfErr, IfOk, false};
+ghost use Rattle.std.specs.Prelude.{◌≡◌, ◌≤◌, ◌+◌, ◌^◌, ◌<◌, ◌↔◌, ◌⊎◌, IfErr, IfOk, IsTrue, false};
 ghost use Rattle.claxon.specs.Error.{is_out_of_memory};
 ghost use Rattle.claxon.specs.MetadataBlock.{info_view};
+ghost use Rattle.claxon_verify.specs.Notes.{
+  NotesEnd,
+  NotesFault,
+  NotesFrame,
+  NotesSizes,
+  NothingNoted,
+  is_other_frame_size,
+};
 ghost use Rattle.claxon_verify.specs.Verify.{IsTooMany};
 ghost use Rattle.claxon_verify.specs.Walk.{
   AddsFault,
@@ -9,6 +17,7 @@ ghost use Rattle.claxon_verify.specs.Walk.{
   BeginsWalk,
   EndsWalk,
   ExceedsCount,
+  IsFailedRead,
   IsFound,
 };
 ghost use Rattle.claxon_blocks.specs.HashBlock.{HashesToo};
@@ -60,6 +69,7 @@ impl<A: Allocator> Walk<A> {
     /// Nothing was found so far. So many places are kept after the first.
     pub fn new(alloc: A, computes_md5: bool, more: usize) -> Walk<A>
         ensures begins_walk { BeginsWalk computes_md5 more result }
+        ensures nothing_noted { NothingNoted result }
         ensures searched { result.notes.has_unsearched ≡ false }
     {
         Walk {
@@ -100,6 +110,7 @@ pub(crate) fn with_frame<A: Allocator, B: Allocator>(
     ensures fits { span.start < 2 ^ 64 }
     ensures ok { IfOk result (AddsFrame (info_view info) frame.now span.start walk) }
     ensures end { IfOk result (λ more. more.end ≡ span.end) }
+    ensures notes { IfOk result (NotesFrame (info_view info) frame.now span.start span.end walk) }
     ensures searched { IfOk result (λ more. more.notes.has_unsearched ≡ walk.notes.has_unsearched) }
     ensures err { IfErr result (ExceedsCount frame.now walk) }
 {
@@ -154,7 +165,7 @@ fn after_frame(after: BytesAfter, scan: &Scan) -> BytesAfter {
     }
 }
 
-// The notes after one frame more. A last block may be short, so it is noted when a frame follows.
+// The notes after one frame more. A last block may be short, so it is noted when a frame follows. No byte is left before it.
 fn with_sizes(
     notes: Notes,
     info: &StreamInfo,
@@ -162,24 +173,28 @@ fn with_sizes(
     duration: u32,
     span: ByteRange,
 ) -> Notes
-    ensures { result.has_unsearched ≡ notes.has_unsearched }
+    ensures notes { NotesSizes (info_view info.now) is_short duration span.start span.end
+        notes result }
+    ensures searched { result.has_unsearched ≡ notes.has_unsearched }
 {
     let bytes = span.end.wrapping_sub(span.start);
-    let is_small = match info.min_frame_size {
-        Some(min) => bytes < u64::from(min),
-        None => false,
-    };
-    let is_large = match info.max_frame_size {
-        Some(max) => u64::from(max) < bytes,
-        None => false,
-    };
     Notes {
         has_other_block_size: notes.has_other_block_size
             || is_short
             || u32::from(info.max_block_size) < duration,
-        has_other_frame_size: notes.has_other_frame_size || is_small || is_large,
+        has_other_frame_size: notes.has_other_frame_size || is_other_frame_size(info, bytes),
+        has_byte_left: false,
         ..notes
     }
+}
+
+// Whether a frame of so many bytes is out of the bounds that the streaminfo says.
+fn is_other_frame_size(info: &StreamInfo, bytes: u64) -> bool
+    ensures { result ≡ is_other_frame_size (info_view info.now) bytes }
+{
+    let min = u64::from(info.min_frame_size.unwrap_or(0));
+    let max = u64::from(info.max_frame_size.unwrap_or(0));
+    bytes < min || (max != 0 && max < bytes)
 }
 
 // The hasher, after the samples of this block too.
@@ -207,6 +222,7 @@ pub(crate) fn with_fault<A: Allocator>(
     ensures fits { span.start < 2 ^ 64 }
     ensures ok { IfOk result (λ more. (is_out_of_memory fault.error ≡ false)
         × AddsFault fault span.start span.end walk more) }
+    ensures notes { IfOk result (NotesFault fault.error walk) }
     ensures err { IfErr result
         (λ e. (fault.error ≡ Error.OutOfMemory) × (e ≡ Error.OutOfMemory)) }
 {
@@ -223,7 +239,7 @@ pub(crate) fn with_fault<A: Allocator>(
         after: after.with(fault.first),
         end: span.end,
         notes: Notes {
-            has_failed_read: notes.has_failed_read || is_failed_read(&fault.error),
+            has_failed_read: or_failed_read(notes.has_failed_read, &fault.error),
             ..notes
         },
         scan: scan.damaged(span.start, Damage::Fault(fault)),
@@ -231,10 +247,19 @@ pub(crate) fn with_fault<A: Allocator>(
     })
 }
 
+// Whether it is so, or the error is that of a failed read.
+fn or_failed_read(is_so: bool, error: &Error) -> bool
+    ensures { IsTrue result ↔ (IsTrue is_so ⊎ IsFailedRead error.now) }
+{
+    is_so || is_failed_read(error)
+}
+
 /// The walk at the end of the stream. The bytes that are left, fewer than two, are no frame. If there is one, it is `last`.
 pub(crate) fn at_end<A: Allocator>(walk: Walk<A>, span: ByteRange, last: u8) -> Walk<A>
+    ensures start_fits { span.start < 2 ^ 64 }
     ensures end_fits { span.end < 2 ^ 64 }
     ensures ends_walk { EndsWalk span.end walk result }
+    ensures notes { NotesEnd span.start span.end walk result }
 {
     let is_left = span.start != span.end;
     let Walk {

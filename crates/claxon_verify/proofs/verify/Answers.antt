@@ -17,3 +17,6 @@ returns-clause-places_are_counted g c = c.verify_exact.ensures.places_are_counte
 
 pub returns-clause-keeps_at_most : goal.returns-clause-keeps_at_most
 returns-clause-keeps_at_most g c = c.verify_exact.ensures.keeps_at_most
+
+pub returns-clause-notes_are_exact : goal.returns-clause-notes_are_exact
+returns-clause-notes_are_exact g c = c.verify_exact.ensures.notes_are_exact

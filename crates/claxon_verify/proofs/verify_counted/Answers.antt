@@ -2,6 +2,7 @@ use Rattle.std.proofs.Common.{inl, inr, ap, refl, sym, ◌∙◌}
 use Rattle.std.proofs.lemmas.Result.{err_from_is_err_and}
 use Rattle.claxon.specs.StreamInfos.{StreamInfo}
 use Rattle.claxon_verify.specs.Verify.{counted_bytes, position_of}
+use Rattle.claxon_verify.proofs.Noted.{noted_stream}
 use Rattle.claxon_verify.proofs.Walking.{front_from_start}
 use Rattle.claxon_verify.proofs.Verified.{all_counted, counted_places, head_consumed, no_head, few_kept, not_counted}
 use Rattle.claxon_command_line.proofs.Showing.{started_quietly}
@@ -28,6 +29,17 @@ returns-clause-places_are_counted g c =
     let h = head_consumed a m (c.in_ok-info.info, c.in_ok-info.unsupported) (position_of c.read_head.new.input) e.gives e.has_bounds (front_from_start source c.args.input.now c.read_head.new.input c.requires e.gives) in
     let r = c.report_of.ensures in
     counted_places b h c.args.computes_md5 c.in_ok-info.info c.in_ok-walk.walk c.report_of.result refl r.unsupported c.in_ok-walk.ensures.ok r.info r.frames r.samples r.kept r.sizes r.md5_is_judged r.md5_is_shown c.in_ok-info.unsupported r.unsupported r.is_right
+
+pub returns-clause-notes_are_exact : goal.returns-clause-notes_are_exact
+returns-clause-notes_are_exact g c =
+    let e = c.in_ok-info.ensures in
+    let source = g.R.ReadBytes.source in
+    let a = counted_bytes source c.args.input.now in
+    let m = counted_bytes source c.read_head.new.input in
+    let b = counted_bytes source c.walk_frames.new.input in
+    let h = head_consumed a m (c.in_ok-info.info, c.in_ok-info.unsupported) (position_of c.read_head.new.input) e.gives e.has_bounds (front_from_start source c.args.input.now c.read_head.new.input c.requires e.gives) in
+    let r = c.report_of.ensures in
+    noted_stream b h c.in_ok-info.info c.in_ok-walk.walk c.report_of.result refl c.in_ok-walk.ensures.notes (record { frames_are = r.frames; samples_are = r.samples; kept = r.kept; sizes_are = r.sizes }) c.in_ok-walk.walk.sizes.changed r.notes
 
 pub returns-clause-keeps_at_most : goal.returns-clause-keeps_at_most
 returns-clause-keeps_at_most g c = let most = c.in_ok-walk.ensures.few in few_kept most.0 most.1 c.report_of.ensures.few
