@@ -16,6 +16,8 @@ pub mod Walking
 pub mod Verified
 -- The notes of a whole stream.
 pub mod Noted
+-- What is noted of parts, one after another.
+pub mod PartsNoted
 -- Parts of a stream that are found, one after another.
 pub mod PartsWalked
 -- A whole stream that is verified by its parts.

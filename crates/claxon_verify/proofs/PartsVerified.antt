@@ -19,17 +19,19 @@ use Rattle.claxon_recovery.specs.Runs.{AreSearched}
 use Rattle.claxon_recovery.specs.Window.{bytes_left}
 use Rattle.claxon_recovery.specs.declared.parts.Parts.{Parts}
 use Rattle.claxon_verify.specs.Kept.{AreKept, Keeps}
-use Rattle.claxon_verify.specs.VerifiedParts.{PartsCounted, PartsReportIsSound, WalksParts, part_frames}
+use Rattle.claxon_verify.specs.VerifiedParts.{NotesOfParts, PartsCounted, PartsReportIsSound, WalksParts, part_frames}
 use Rattle.claxon_verify.specs.Places.{places_at}
 use Rattle.claxon_verify.specs.StreamHead.{FoundHead}
 use Rattle.claxon_verify.specs.RightStream.{bytes_of_frames}
 use Rattle.claxon_verify.specs.Verify.{Counts, IsRight, Md5Is, NothingIsWrong, counted_bytes, report_view, sum_of, update_position}
 use Rattle.claxon_verify.specs.Walk.{IsCounted}
+use Rattle.claxon_verify.specs.declared.report.BlockSizes.{BlockSizes}
 use Rattle.claxon_verify.specs.declared.report.Place.{Place}
 use Rattle.claxon_verify.specs.declared.report.Report.{Report}
 use Rattle.claxon_verify.specs.declared.report.UnsupportedBlock.{UnsupportedBlock}
 use Rattle.claxon_verify.specs.declared.BytesRead.{BytesRead}
 use Rattle.claxon_verify.specs.declared.walk.Walk.{Walk}
+use Rattle.claxon_verify.proofs.PartsNoted.{same_notes}
 use Rattle.claxon_verify.proofs.Verified.{HeadIsConsumed, head_code, judged_md5, shown_md5}
 
 -- what a report says of itself
@@ -44,12 +46,13 @@ abbrev pub CountsParts : {A : Type 0} → Bool → StreamInfo → ℕ → State 
 CountsParts computes_md5 info start m walk =
     RemainingIsKnown m
     → (counts : Counts) → IsCounted walk (or_zero info.samples) counts
-    → (counted : PartsCounted info start m.remaining counts) × HasHashedBytes computes_md5 (bytes_of_frames (info_view info).bit_depth (part_frames counted.parts)) walk.md5 × ((walk.notes.has_unsearched ≡ false) ↔ AreSearched counted.parts)
+    → (counted : PartsCounted info start m.remaining counts) × HasHashedBytes computes_md5 (bytes_of_frames (info_view info).bit_depth (part_frames counted.parts)) walk.md5 × ((walk.notes.has_unsearched ≡ false) ↔ AreSearched counted.parts) × NotesOfParts (info_view info) counted.parts counted.found walk.notes
 
 pub parts_verified : {a m : State ℕ} {head : FoundHead} {stream : Option StreamFormat} {start : ℕ} (h : HeadIsConsumed a m head stream start) (computes_md5 : Bool) {A B : Type 0} (info : StreamInfo) (walk : Walk A) (report : Report B) (of_info : head.info ≡ info_view info) (unsupported_is : report.unsupported ≡ head.unsupported) (small : start < 2 ^ 64) (walks : CountsParts computes_md5 info start m walk) (info_is : report.info ≡ info)
     (frames_are : report.found.frames ≡ walk.frames) (samples_are : report.found.samples ≡ walk.samples) (kept : (all : List Place) → Keeps all walk.places → AreKept (places_at walk.end (or_zero info.samples) (record { scan = walk.scan; places = all })) report.found.places.first report.found.places.more.items report.found.places.left_out) (sizes_are : report.found.notes.changed_block_size ≡ walk.sizes.changed)
-    (md5_is : Md5IsJudged (info_view info) walk.md5 report.md5) (md5_shown : Md5IsShown walk.md5 report.computed_md5) (unsupported : Option UnsupportedBlock) (given : report.unsupported ≡ unsupported) (right : IsTrue report.is_right ↔ ((unsupported ≡ None) × NothingIsWrong report.found (or_zero info.samples) report.md5)) (searched : report.found.notes.has_unsearched ≡ walk.notes.has_unsearched) → PartsReportIsSound computes_md5 a (Ok report)
-parts_verified {a} {m} {head} {stream} {start} h computes_md5 info walk report of_info unsupported_is small walks info_is frames_are samples_are kept sizes_are md5_is md5_shown unsupported given right searched known =
+    (md5_is : Md5IsJudged (info_view info) walk.md5 report.md5) (md5_shown : Md5IsShown walk.md5 report.computed_md5) (unsupported : Option UnsupportedBlock) (given : report.unsupported ≡ unsupported) (right : IsTrue report.is_right ↔ ((unsupported ≡ None) × NothingIsWrong report.found (or_zero info.samples) report.md5)) (searched : report.found.notes.has_unsearched ≡ walk.notes.has_unsearched)
+    (changed : Option BlockSizes) (same : report.found.notes ≡ record walk.notes { changed_block_size = changed }) → PartsReportIsSound computes_md5 a (Ok report)
+parts_verified {a} {m} {head} {stream} {start} h computes_md5 info walk report of_info unsupported_is small walks info_is frames_are samples_are kept sizes_are md5_is md5_shown unsupported given right searched changed same known =
     let s = h.is known in
     let w = walks (h.known known) (report_view report).counts (record { frames_are = frames_are; samples_are = samples_are; kept = kept; sizes_are = sizes_are }) in
     let frames = part_frames w.0.parts in
@@ -73,6 +76,7 @@ parts_verified {a} {m} {head} {stream} {start} h computes_md5 info walk report o
       sum_is = subst (λ (i : Streaminfo). report.computed_md5 ≡ sum_of computes_md5 i frames) (sym of_info) sum;
       right = right_report report unsupported info given info_is right;
       searched = (λ e. w.2.0 (sym searched ∙ e), λ all. searched ∙ w.2.1 all);
+      noted = subst (λ (i : Streaminfo). NotesOfParts i w.0.parts w.0.found report.found.notes) (sym of_info) (same_notes (info_view info) w.0.parts w.0.found walk.notes report.found.notes changed same w.3);
     }
 
 -- from where the parts begin
@@ -85,7 +89,7 @@ counts_from source computes_md5 info start input p walk begins walks k counts co
     subst (λ (n : ℕ). Of n (counted_bytes source input.now).remaining) begins.position_is (subst (λ (z : List ℕ). Of (parts_position p) z) left (walks known counts counted))
   where
     Of : ℕ → List ℕ → Type 0
-    Of n z = (parts : PartsCounted info n z counts) × HasHashedBytes computes_md5 (bytes_of_frames (info_view info).bit_depth (part_frames parts.parts)) walk.md5 × ((walk.notes.has_unsearched ≡ false) ↔ AreSearched parts.parts)
+    Of n z = (parts : PartsCounted info n z counts) × HasHashedBytes computes_md5 (bytes_of_frames (info_view info).bit_depth (part_frames parts.parts)) walk.md5 × ((walk.notes.has_unsearched ≡ false) ↔ AreSearched parts.parts) × NotesOfParts (info_view info) parts.parts parts.found walk.notes
 
 -- through the reader that counts bytes
 pub parts_through : {R A : Type 0} (source : R → Source ℕ) (input : MutBor R) (x : RunningReader (MutBor R) BytesRead) → running_inner x ≡ input → (computes_md5 : Bool) (result : Result (Report A) Error) → PartsReportIsSound computes_md5 (counted_bytes (lent source) x) result → PartsReportIsSound computes_md5 (bytes_in source input.now) result

@@ -18,7 +18,8 @@ use Rattle.claxon_recovery.specs.declared.part.Part.{Part}
 use Rattle.claxon_recovery.specs.declared.part.Part.TheVariants.{Frame as IsFrame, Damage as IsDamage}
 use Rattle.claxon_recovery.specs.declared.parts.Parts.{Parts}
 use Rattle.claxon_verify.specs.Kept.{AreKept, Keeps}
-use Rattle.claxon_verify.specs.VerifiedParts.{AddsDamage, AddsPart, FoundAre, FoundOf, WalksParts, is_byte_left, part_frames}
+use Rattle.claxon_verify.specs.Notes.{NotesFrame, NothingNoted}
+use Rattle.claxon_verify.specs.VerifiedParts.{AddsDamage, AddsPart, FoundAre, FoundOf, NotesDamage, WalksParts, is_byte_left, part_frames}
 use Rattle.claxon_verify.specs.Places.{FoundPart, Scans, begun_scan, list_of, places_at, scan_frame, scan_more, scan_part, scan_parts}
 use Rattle.claxon_verify.specs.RightStream.{bytes_of_frames, frame_duration}
 use Rattle.claxon_verify.specs.Walk.{AddsFrame, AreSizesOf, BeginsWalk}
@@ -27,6 +28,7 @@ use Rattle.claxon_verify.specs.declared.report.Place.{Place}
 use Rattle.claxon_verify.specs.declared.scan.Scan.{Scan}
 use Rattle.claxon_verify.specs.declared.walk.Walk.{Walk}
 use Rattle.claxon_verify.proofs.BlockSizes.{changed_of}
+use Rattle.claxon_verify.proofs.PartsNoted.{PartsNoted, damage_so_far, frame_part_so_far, nothing_of_parts, parts_noted}
 use Rattle.claxon_verify.proofs.Walking.{bytes_push, frame_few, hashed_push}
 
 -- ---- parts, one after another
@@ -106,6 +108,7 @@ pub record FoundSoFar {A : Type 0} (computes_md5 : Bool) (info : StreamInfo) (st
   pub scan : scan_parts (info_view info) (record { scan = begun_scan; places = [] }) found ≡ record { scan = walk.scan; places = places }
   pub keeps : Keeps places walk.places
   pub searched : (walk.notes.has_unsearched ≡ false) ↔ AreSearched parts
+  pub noted : PartsNoted (info_view info) parts walk
 
 pub record PartsSoFar {R A : Type 0} (source : R → Source ℕ) (computes_md5 : Bool) (info : StreamInfo) (old new : Parts R) (walk : Walk A) : Type 0 where
   pub info_is : parts_info new ≡ info
@@ -128,9 +131,9 @@ with_end end walk = record {
   after = walk.after;
 }
 
-pub none_found : {R A : Type 0} (source : R → Source ℕ) (computes_md5 : Bool) (info : StreamInfo) (start more : ℕ) (old : Parts R) (walk : Walk A) → parts_info old ≡ info → parts_position old ≡ start → BeginsWalk computes_md5 more walk → walk.notes.has_unsearched ≡ false → PartsSoFar source computes_md5 info old old (with_end start walk)
+pub none_found : {R A : Type 0} (source : R → Source ℕ) (computes_md5 : Bool) (info : StreamInfo) (start more : ℕ) (old : Parts R) (walk : Walk A) → parts_info old ≡ info → parts_position old ≡ start → BeginsWalk computes_md5 more walk → NothingNoted walk → walk.notes.has_unsearched ≡ false → PartsSoFar source computes_md5 info old old (with_end start walk)
 unfolding Rattle.claxon_md5.specs.WholeBytes.whole_bytes_of_samples
-none_found source computes_md5 info start more old walk same at begins searched = record {
+none_found source computes_md5 info start more old walk same at begins none searched = record {
   info_is = same;
   end_is = sym at;
   known = λ k. k;
@@ -147,6 +150,7 @@ none_found source computes_md5 info start more old walk same at begins searched 
     scan = ap (λ (z : Scan). record { scan = z; places = [] }) (sym begins.scan_is);
     keeps = begins.keeps;
     searched = (λ e. tt, λ h. searched);
+    noted = nothing_of_parts (info_view info) (with_end start walk) (record { block_size = none.block_size; short = none.short; frame_size = none.frame_size; byte_left = none.byte_left; failed_read = none.failed_read });
   };
 }
 
@@ -194,8 +198,8 @@ answered {source = source} {info = info} {old = old} {mid = mid} h new part is f
 module _ {R A : Type 0} {source : R → Source ℕ} {computes_md5 : Bool} {info : StreamInfo} {old mid new : Parts R} {walk more : Walk A} (h : PartsSoFar source computes_md5 info old mid walk) (same : parts_info new ≡ parts_info mid) (known : SourceIsKnown source mid → SourceIsKnown source new) where
   -- a frame more
   frame_more : (there : FrameThere) → (SourceIsKnown source mid → IsPart (parts_info mid) (parts_position mid) (unread source mid) (unread source new) (Some (IsFrame there))) → (SourceIsKnown source mid → FindsFrame (parts_info mid) (unread source mid) (unread source new) (IsFrame there)) → parts_position new ≡ there.end
-      → AddsFrame (info_view info) there.frame there.start walk more → more.end ≡ there.end → more.notes.has_unsearched ≡ walk.notes.has_unsearched → PartsSoFar source computes_md5 info old new more
-  frame_more there is finds at adds end searched =
+      → AddsFrame (info_view info) there.frame there.start walk more → more.end ≡ there.end → more.notes.has_unsearched ≡ walk.notes.has_unsearched → NotesFrame (info_view info) there.frame there.start there.end walk more → PartsSoFar source computes_md5 info old new more
+  frame_more there is finds at adds end searched notes =
       let part : Part = IsFrame there in
       let value = decoded_view there.frame in
       let scanned = scan_frame (info_view info) there.start adds.found walk.scan in
@@ -221,13 +225,14 @@ module _ {R A : Type 0} {source : R → Source ℕ} {computes_md5 : Bool} {info 
               scan = scan_append (info_view info) (record { scan = begun_scan; places = [] }) p.found here ∙ ap (λ (z : Scans). scan_more (info_view info) z (record { start = there.start; what = Ok adds.found })) p.scan ∙ ap (λ (z : Scan). record { scan = z; places = p.places ++ list_of scanned.place }) (sym adds.scan_is);
               keeps = adds.places.keeps p.places p.keeps;
               searched = let q = searched_push p.parts part in (λ e. q.1 (p.searched.0 (sym searched ∙ e), tt), λ all. searched ∙ p.searched.1 (q.0 all).0);
+              noted = frame_part_so_far p.noted there notes frames_are;
             };
       }
 
   -- damage more
   damage_more : (damage : Damage) → (SourceIsKnown source mid → IsPart (parts_info mid) (parts_position mid) (unread source mid) (unread source new) (Some (IsDamage damage))) → (SourceIsKnown source mid → FindsFrame (parts_info mid) (unread source mid) (unread source new) (IsDamage damage)) → parts_position new ≡ damage.end
-      → AddsDamage (info_view info) damage walk more → PartsSoFar source computes_md5 info old new more
-  damage_more damage is finds at adds =
+      → AddsDamage (info_view info) damage walk more → NotesDamage damage walk more → PartsSoFar source computes_md5 info old new more
+  damage_more damage is finds at adds notes =
       let part : Part = IsDamage damage in
       record {
         info_is = same ∙ h.info_is;
@@ -250,14 +255,15 @@ module _ {R A : Type 0} {source : R → Source ℕ} {computes_md5 : Bool} {info 
               scan = d.scan;
               keeps = d.keeps;
               searched = let q = searched_push p.parts part in (λ e. let k = adds.searched.0 e in q.1 (p.searched.0 k.0, k.1), λ all. let k = q.0 all in adds.searched.1 (p.searched.1 k.0, k.1));
+              noted = damage_so_far p.noted damage (λ e. (adds.passes e).0) notes frames_are;
             };
       }
 
   -- a part more
   pub part_more : (part : Part) → (SourceIsKnown source mid → IsPart (parts_info mid) (parts_position mid) (unread source mid) (unread source new) (Some part)) → (SourceIsKnown source mid → FindsFrame (parts_info mid) (unread source mid) (unread source new) part) → parts_position new ≡ after_part (parts_position mid) (Some part)
       → AddsPart (info_view info) part walk more → PartsSoFar source computes_md5 info old new more
-  part_more (IsFrame there) is finds at adds = frame_more there is finds at adds.0 adds.1 adds.2
-  part_more (IsDamage damage) is finds at adds = damage_more damage is finds at adds
+  part_more (IsFrame there) is finds at adds = frame_more there is finds at adds.0 adds.1 adds.2 adds.3
+  part_more (IsDamage damage) is finds at adds = damage_more damage is finds at adds.0 adds.1
 
 -- ---- the end
 
@@ -283,6 +289,7 @@ walked {source = source} {info = info} {old = old} {mid = mid} {walk = walk} sma
       },
       p.hashed,
       p.searched,
+      parts_noted (info_view info) p.parts p.found walk p.noted (ap (λ (z : Scans). z.scan.begun) p.scan),
     )
 
 -- ---- so many are kept
@@ -298,4 +305,4 @@ damage_few {A = A} {info = info} {damage = damage} {more = more} {old = old} {ne
 
 pub part_few : {A : Type 0} (info : Streaminfo) {more : ℕ} (old new : Walk A) (part : Part) → AddsPart info part old new → old.places.more ≡ more → length old.places.places.more.items ≤ more → (new.places.more ≡ more) × (length new.places.places.more.items ≤ more)
 part_few info old new (IsFrame there) adds same few = (adds.0.places.more ∙ same, frame_few adds.0 same few)
-part_few info old new (IsDamage damage) adds same few = damage_few adds same few
+part_few info old new (IsDamage damage) adds same few = damage_few adds.0 same few

@@ -1,5 +1,5 @@
 -- Streams that are verified by their parts: frames, and the damage between them.
-use Rattle.std.specs.Prelude.{◌≡◌, ◌⊎◌, ◌==◌, ◌&&◌, ◌↔◌, ℕ, ◌+◌, ◌%◌, ◌^◌, Bool, false, true, codes, IfOk, IsTrue, List, [], ◌∷◌, ◌++◌, length, Result, Ok, Err}
+use Rattle.std.specs.Prelude.{◌≡◌, ◌⊎◌, ◌==◌, ◌&&◌, ◌↔◌, ℕ, ◌+◌, ◌%◌, ◌^◌, Bool, false, true, codes, IfOk, IsTrue, List, [], ◌∷◌, ◌++◌, length, map, None, Result, Ok, Err}
 use Rattle.std.specs.List.{sum_by}
 use Rattle.claxon.specs.DecodedFrame.{FrameValue, decoded_view}
 use Rattle.claxon.specs.Error.{IsIo}
@@ -31,6 +31,13 @@ use Rattle.claxon_recovery.specs.declared.part.Part.TheVariants.{
 }
 use Rattle.claxon_recovery.specs.declared.parts.Parts.{Parts}
 use Rattle.claxon_verify.specs.Kept.{AreKept, KeepsPlaces}
+use Rattle.claxon_verify.specs.Notes.{
+  NoneGoesOn,
+  NotesFrame,
+  bytes_between,
+  other_block_size,
+  other_frame_size,
+}
 use Rattle.claxon_verify.specs.Places.{FoundPart, list_of, places_of, scan_part}
 use Rattle.claxon_verify.specs.RightStream.{bytes_of_frames, frame_duration}
 use Rattle.claxon_verify.specs.StreamHead.{FoundHead, FoundHeadCode}
@@ -46,6 +53,7 @@ use Rattle.claxon_verify.specs.Verify.{
 }
 use Rattle.claxon_verify.specs.Walk.{AddsFrame, IsCounted, IsFailedRead}
 use Rattle.claxon_verify.specs.declared.due.FoundFrame.{FoundFrame}
+use Rattle.claxon_verify.specs.declared.report.Notes.{Notes}
 use Rattle.claxon_verify.specs.declared.report.Report.{Report}
 use Rattle.claxon_verify.specs.declared.walk.Walk.{Walk}
 
@@ -112,6 +120,31 @@ FoundAre info (part ∷ parts) found =
     (here : List FoundPart) × (more : List FoundPart) × FoundOf info part here
     × FoundAre info parts more × (found ≡ here ++ more)
 
+-- ---- what is noted
+
+-- the sizes of the frames among parts
+abbrev pub part_sizes : List Part → List ℕ
+part_sizes [] = []
+part_sizes (IsFrame there ∷ parts) = bytes_between there.start there.end ∷ part_sizes parts
+part_sizes (IsDamage damage ∷ parts) = part_sizes parts
+
+-- whether the last part is one byte, at which the stream ends
+abbrev pub ends_in_byte : List Part → Bool
+ends_in_byte [] = false
+ends_in_byte (part ∷ []) = is_passed part
+ends_in_byte (part ∷ next ∷ parts) = ends_in_byte (next ∷ parts)
+
+-- The notes are those of these parts, of which this was found. A byte is left where no place goes
+-- on at it. No read failed.
+pub record NotesOfParts (info : Streaminfo) (parts : List Part) (found : List FoundPart)
+    (notes : Notes) : Type 0 where
+  pub block_size : notes.has_other_block_size
+      ≡ other_block_size info (map frame_duration (part_frames parts))
+  pub frame_size : notes.has_other_frame_size ≡ other_frame_size info (part_sizes parts)
+  pub byte_left : IsTrue notes.has_byte_left
+      ↔ ((ends_in_byte parts ≡ true) × NoneGoesOn info found)
+  pub none_failed : notes.has_failed_read ≡ false
+
 -- ---- what is counted
 
 -- s, of which the first byte is at the position `start`, has parts as `next_part` answers them, and
@@ -130,10 +163,10 @@ pub record PartsCounted (info : StreamInfo) (start : ℕ) (s : List ℕ) (counts
     pub kept : AreKept (places_of (info_view info) end found) counts.first counts.more
         counts.left_out
 
--- s is a head and parts up to the end, and the report is about them, and says whether each position
--- of damage was searched.
-pub record IsOfParts (computes_md5 : Bool) (s : List ℕ) (report : ReportValue)
-    (has_unsearched : Bool) : Type 0 where
+-- s is a head and parts up to the end, and the report and its notes are about them, which say whether
+-- each position of damage was searched.
+pub record IsOfParts (computes_md5 : Bool) (s : List ℕ) (report : ReportValue) (notes : Notes)
+    : Type 0 where
   pub head : FoundHead
   pub front : List ℕ
   pub bytes : List ℕ
@@ -149,14 +182,15 @@ pub record IsOfParts (computes_md5 : Bool) (s : List ℕ) (report : ReportValue)
   pub md5_is : Md5Is computes_md5 head.info (part_frames counted.parts) report.md5
   pub sum_is : report.sum ≡ sum_of computes_md5 head.info (part_frames counted.parts)
   pub right : IsRight report
-  pub searched : (has_unsearched ≡ false) ↔ AreSearched counted.parts
+  pub searched : (notes.has_unsearched ≡ false) ↔ AreSearched counted.parts
+  pub noted : NotesOfParts head.info counted.parts counted.found notes
 
 -- The report is about the remaining bytes.
 abbrev pub PartsReportIsSound : {A : Type 0} → Bool → State ℕ → Result (Report A) Error → Type 0
 PartsReportIsSound computes_md5 old result =
     IfOk result (λ report.
-    RemainingIsKnown old → IsOfParts computes_md5 old.remaining (report_view report)
-    report.found.notes.has_unsearched)
+    RemainingIsKnown old
+    → IsOfParts computes_md5 old.remaining (report_view report) report.found.notes)
 
 -- ---- the walk
 
@@ -177,15 +211,26 @@ pub record AddsDamage {A : Type 0} (info : Streaminfo) (damage : DamagePart) (ol
       × KeepsPlaces (list_of (scan_part info old.scan damage.start what).place) old.places
       new.places
 
+-- It was noted: one byte, at which the stream ends, is left where no place goes on.
+pub record NotesDamage {A : Type 0} (damage : DamagePart) (old new : Walk A) : Type 0 where
+  pub block_size : new.notes.has_other_block_size ≡ old.notes.has_other_block_size
+  pub short : new.is_short ≡ old.is_short
+  pub frame_size : new.notes.has_other_frame_size ≡ old.notes.has_other_frame_size
+  pub byte_left : IsTrue new.notes.has_byte_left
+      ↔ ((is_byte_left damage ≡ true) × (old.scan.begun ≡ None))
+  pub failed_read : new.notes.has_failed_read ≡ old.notes.has_failed_read
+
 -- A part more was found.
 abbrev pub AddsPart : {A : Type 0} → Streaminfo → Part → Walk A → Walk A → Type 0
 AddsPart info (IsFrame there) old new =
     AddsFrame info there.frame there.start old new × (new.end ≡ there.end)
     × (new.notes.has_unsearched ≡ old.notes.has_unsearched)
-AddsPart info (IsDamage damage) old new = AddsDamage info damage old new
+    × NotesFrame info there.frame there.start there.end old new
+AddsPart info (IsDamage damage) old new =
+    AddsDamage info damage old new × NotesDamage damage old new
 
 -- What was unread has such parts, and they were counted; the samples of their frames were hashed;
--- and it is known whether each position of damage was searched.
+-- it is known whether each position of damage was searched; and they were noted.
 abbrev pub WalksParts : {R A : Type 0} → (R → Source ℕ) → Bool → StreamInfo → Parts R → Walk A
     → Type 0
 WalksParts source computes_md5 info old walk =
@@ -195,3 +240,4 @@ WalksParts source computes_md5 info old walk =
     × HasHashedBytes computes_md5
     (bytes_of_frames (info_view info).bit_depth (part_frames counted.parts)) walk.md5
     × ((walk.notes.has_unsearched ≡ false) ↔ AreSearched counted.parts)
+    × NotesOfParts (info_view info) counted.parts counted.found walk.notes

@@ -9,6 +9,7 @@ ghost use Rattle.claxon_verify.specs.VerifiedParts.{
   AddsDamage,
   AddsPart,
   IsWhy,
+  NotesDamage,
   PartsReportIsSound,
   WalksParts,
   is_byte_left,
@@ -131,6 +132,7 @@ fn with_part(walk: Walk<Global>, info: StreamInfo, part: Part) -> Result<Walk<Gl
 // Damage more. One byte at the end is noted, if no place goes on.
 fn with_damage(walk: Walk<Global>, info: &StreamInfo, damage: Damage) -> Walk<Global>
     ensures adds_damage { AddsDamage (info_view info.now) damage walk result }
+    ensures notes { NotesDamage damage walk result }
 {
     let is_left = is_byte_left(&damage);
     let Damage {
@@ -149,17 +151,16 @@ fn with_damage(walk: Walk<Global>, info: &StreamInfo, damage: Damage) -> Walk<Gl
         ..
     } = walk;
     let after = after.with_bytes(first, are_zeros);
-    let has_unsearched = or_unsearched(notes.has_unsearched, unsearched);
+    let notes = Notes {
+        has_byte_left: is_left && scan.begun.is_none(),
+        has_unsearched: or_unsearched(notes.has_unsearched, unsearched),
+        ..notes
+    };
     if is_left {
-        let has_byte_left = scan.begun.is_none();
         return Walk {
             scan,
             places,
-            notes: Notes {
-                has_byte_left,
-                has_unsearched,
-                ..notes
-            },
+            notes,
             after,
             end,
             ..walk
@@ -169,10 +170,7 @@ fn with_damage(walk: Walk<Global>, info: &StreamInfo, damage: Damage) -> Walk<Gl
     Walk {
         scan,
         places: places.with(place),
-        notes: Notes {
-            has_unsearched,
-            ..notes
-        },
+        notes,
         after,
         end,
         ..walk
