@@ -20,6 +20,8 @@ pub mod Noted
 pub mod PartsNoted
 -- Parts of a stream that are found, one after another.
 pub mod PartsWalked
+-- Why parts of a stream aren't all found.
+pub mod PartsStopped
 -- A whole stream that is verified by its parts.
 pub mod PartsVerified
 -- Faults for which a block is passed over are within its content.

@@ -19,6 +19,7 @@ use Rattle.claxon_recovery.specs.declared.part.Part.TheVariants.{Frame as IsFram
 use Rattle.claxon_recovery.specs.declared.parts.Parts.{Parts}
 use Rattle.claxon_verify.specs.Kept.{AreKept, Keeps}
 use Rattle.claxon_verify.specs.Notes.{NotesFrame, NothingNoted}
+use Rattle.claxon_verify.specs.PartFaults.{AnsweredUpTo}
 use Rattle.claxon_verify.specs.VerifiedParts.{AddsDamage, AddsPart, FoundAre, FoundOf, NotesDamage, WalksParts, is_byte_left, part_frames}
 use Rattle.claxon_verify.specs.Places.{FoundPart, Scans, begun_scan, list_of, places_at, scan_frame, scan_more, scan_part, scan_parts}
 use Rattle.claxon_verify.specs.RightStream.{bytes_of_frames, frame_duration}
@@ -38,13 +39,7 @@ after_same (IsFrame there) a b = refl
 after_same (IsDamage damage) a b = refl
 
 module _ (info : StreamInfo) where
-  -- The first bytes of s have these parts, as calls answer them, and m is what is left after them.
-  abbrev pub AnsweredUpTo : ℕ → List ℕ → List Part → ℕ → List ℕ → Type 0
-  AnsweredUpTo start s [] at m = (s ≡ m) × (start ≡ at)
-  AnsweredUpTo start s (part ∷ parts) at m =
-      (n : List ℕ) × IsPart info start s n (Some part) × FindsFrame info s n part × AnsweredUpTo (after_part start (Some part)) n parts at m
-
-  pub answered_push : (start : ℕ) (s : List ℕ) (parts : List Part) (at : ℕ) (m : List ℕ) → AnsweredUpTo start s parts at m → (part : Part) (n : List ℕ) → IsPart info at m n (Some part) → FindsFrame info m n part → AnsweredUpTo start s (parts ++ part ∷ []) (after_part at (Some part)) n
+  pub answered_push : (start : ℕ) (s : List ℕ) (parts : List Part) (at : ℕ) (m : List ℕ) → AnsweredUpTo info start s parts at m → (part : Part) (n : List ℕ) → IsPart info at m n (Some part) → FindsFrame info m n part → AnsweredUpTo info start s (parts ++ part ∷ []) (after_part at (Some part)) n
   answered_push start s [] at m h part n is finds = (
     n,
     subst (λ (k : ℕ). IsPart info k s n (Some part)) (sym h.1) (subst (λ (l : List ℕ). IsPart info at l n (Some part)) (sym h.0) is),
@@ -53,12 +48,12 @@ module _ (info : StreamInfo) where
   )
   answered_push start s (first ∷ parts) at m h part n is finds = (h.0, h.1, h.2, answered_push (after_part start (Some first)) h.0 parts at m h.3 part n is finds)
 
-  pub answered_all : (start : ℕ) (s : List ℕ) (parts : List Part) (at : ℕ) (m : List ℕ) → AnsweredUpTo start s parts at m → m ≡ [] → AreAnswered info start s parts
+  pub answered_all : (start : ℕ) (s : List ℕ) (parts : List Part) (at : ℕ) (m : List ℕ) → AnsweredUpTo info start s parts at m → m ≡ [] → AreAnswered info start s parts
   answered_all start s [] at m h none = h.0 ∙ none
   answered_all start s (part ∷ parts) at m h none = (h.0, h.1, h.2, answered_all (after_part start (Some part)) h.0 parts at m h.3 none)
 
   -- where they end
-  pub ends_at : (start : ℕ) (s : List ℕ) (parts : List Part) (at : ℕ) (m : List ℕ) → start < 2 ^ 64 → AnsweredUpTo start s parts at m → ((at + length m) % 2 ^ 64 ≡ (start + length s) % 2 ^ 64) × (at < 2 ^ 64)
+  pub ends_at : (start : ℕ) (s : List ℕ) (parts : List Part) (at : ℕ) (m : List ℕ) → start < 2 ^ 64 → AnsweredUpTo info start s parts at m → ((at + length m) % 2 ^ 64 ≡ (start + length s) % 2 ^ 64) × (at < 2 ^ 64)
   ends_at start s [] at m small h = let n = ap length h.0 in let e = h.1 in (omega (arith, n, e), omega (arith, e, small))
   ends_at start s (IsFrame there ∷ parts) at m small (rest, is, finds, h) =
       let n : length s ≡ length is.bytes + length rest = ap length is.joined ∙ length-append is.bytes rest in
@@ -95,9 +90,10 @@ scan_append info scans (part ∷ found) more = scan_append info (scan_more info 
 -- ---- the walk
 
 -- So far these parts were passed, and these were counted.
-pub record FoundSoFar {A : Type 0} (computes_md5 : Bool) (info : StreamInfo) (start : ℕ) (s : List ℕ) (at : ℕ) (m : List ℕ) (walk : Walk A) : Type 0 where
+pub record FoundSoFar {A : Type 0} (computes_md5 : Bool) (info : StreamInfo) (start : ℕ) (s : List ℕ) (at : ℕ) (m : List ℕ) (count : ℕ) (walk : Walk A) : Type 0 where
   pub parts : List Part
   pub are : AnsweredUpTo info start s parts at m
+  pub count_is : length parts ≡ count
   pub frames : walk.frames ≡ length (part_frames parts)
   pub samples : walk.samples ≡ sum_by frame_duration (part_frames parts)
   pub sizes : AreSizesOf (part_frames parts) walk.sizes
@@ -110,11 +106,11 @@ pub record FoundSoFar {A : Type 0} (computes_md5 : Bool) (info : StreamInfo) (st
   pub searched : (walk.notes.has_unsearched ≡ false) ↔ AreSearched parts
   pub noted : PartsNoted (info_view info) parts walk
 
-pub record PartsSoFar {R A : Type 0} (source : R → Source ℕ) (computes_md5 : Bool) (info : StreamInfo) (old new : Parts R) (walk : Walk A) : Type 0 where
+pub record PartsSoFar {R A : Type 0} (source : R → Source ℕ) (computes_md5 : Bool) (info : StreamInfo) (old new : Parts R) (count : ℕ) (walk : Walk A) : Type 0 where
   pub info_is : parts_info new ≡ info
   pub end_is : walk.end ≡ parts_position new
   pub known : SourceIsKnown source old → SourceIsKnown source new
-  pub is : SourceIsKnown source old → FoundSoFar computes_md5 info (parts_position old) (unread source old) (parts_position new) (unread source new) walk
+  pub is : SourceIsKnown source old → FoundSoFar computes_md5 info (parts_position old) (unread source old) (parts_position new) (unread source new) count walk
 
 -- The same as at the start, but for the end.
 abbrev pub with_end : {A : Type 0} → ℕ → Walk A → Walk A
@@ -131,7 +127,7 @@ with_end end walk = record {
   after = walk.after;
 }
 
-pub none_found : {R A : Type 0} (source : R → Source ℕ) (computes_md5 : Bool) (info : StreamInfo) (start more : ℕ) (old : Parts R) (walk : Walk A) → parts_info old ≡ info → parts_position old ≡ start → BeginsWalk computes_md5 more walk → NothingNoted walk → walk.notes.has_unsearched ≡ false → PartsSoFar source computes_md5 info old old (with_end start walk)
+pub none_found : {R A : Type 0} (source : R → Source ℕ) (computes_md5 : Bool) (info : StreamInfo) (start more : ℕ) (old : Parts R) (walk : Walk A) → parts_info old ≡ info → parts_position old ≡ start → BeginsWalk computes_md5 more walk → NothingNoted walk → walk.notes.has_unsearched ≡ false → PartsSoFar source computes_md5 info old old 0 (with_end start walk)
 unfolding Rattle.claxon_md5.specs.WholeBytes.whole_bytes_of_samples
 none_found source computes_md5 info start more old walk same at begins none searched = record {
   info_is = same;
@@ -140,6 +136,7 @@ none_found source computes_md5 info start more old walk same at begins none sear
   is = λ k. record {
     parts = [];
     are = (refl, refl);
+    count_is = refl;
     frames = begins.frames_are;
     samples = begins.samples_are;
     sizes = begins.no_size;
@@ -186,7 +183,7 @@ damage_found info damage found places walk more adds scan keeps false e =
     }
 
 -- one part more
-answered : {R A : Type 0} {source : R → Source ℕ} {computes_md5 : Bool} {info : StreamInfo} {old mid : Parts R} {walk : Walk A} (h : PartsSoFar source computes_md5 info old mid walk) (new : Parts R) (part : Part) → (SourceIsKnown source mid → IsPart (parts_info mid) (parts_position mid) (unread source mid) (unread source new) (Some part)) → (SourceIsKnown source mid → FindsFrame (parts_info mid) (unread source mid) (unread source new) part)
+pub answered : {R A : Type 0} {source : R → Source ℕ} {computes_md5 : Bool} {info : StreamInfo} {old mid : Parts R} {count : ℕ} {walk : Walk A} (h : PartsSoFar source computes_md5 info old mid count walk) (new : Parts R) (part : Part) → (SourceIsKnown source mid → IsPart (parts_info mid) (parts_position mid) (unread source mid) (unread source new) (Some part)) → (SourceIsKnown source mid → FindsFrame (parts_info mid) (unread source mid) (unread source new) part)
     → parts_position new ≡ after_part (parts_position mid) (Some part) → (k : SourceIsKnown source old) → AnsweredUpTo info (parts_position old) (unread source old) ((h.is k).parts ++ part ∷ []) (parts_position new) (unread source new)
 answered {source = source} {info = info} {old = old} {mid = mid} h new part is finds at k =
     let p = h.is k in
@@ -195,10 +192,10 @@ answered {source = source} {info = info} {old = old} {mid = mid} h new part is f
     subst (λ (z : ℕ). AnsweredUpTo info (parts_position old) (unread source old) (p.parts ++ part ∷ []) z (unread source new)) (sym at)
     (answered_push info (parts_position old) (unread source old) p.parts (parts_position mid) (unread source mid) p.are part (unread source new) there first)
 
-module _ {R A : Type 0} {source : R → Source ℕ} {computes_md5 : Bool} {info : StreamInfo} {old mid new : Parts R} {walk more : Walk A} (h : PartsSoFar source computes_md5 info old mid walk) (same : parts_info new ≡ parts_info mid) (known : SourceIsKnown source mid → SourceIsKnown source new) where
+module _ {R A : Type 0} {source : R → Source ℕ} {computes_md5 : Bool} {info : StreamInfo} {old mid new : Parts R} {count : ℕ} {walk more : Walk A} (h : PartsSoFar source computes_md5 info old mid count walk) (same : parts_info new ≡ parts_info mid) (known : SourceIsKnown source mid → SourceIsKnown source new) where
   -- a frame more
   frame_more : (there : FrameThere) → (SourceIsKnown source mid → IsPart (parts_info mid) (parts_position mid) (unread source mid) (unread source new) (Some (IsFrame there))) → (SourceIsKnown source mid → FindsFrame (parts_info mid) (unread source mid) (unread source new) (IsFrame there)) → parts_position new ≡ there.end
-      → AddsFrame (info_view info) there.frame there.start walk more → more.end ≡ there.end → more.notes.has_unsearched ≡ walk.notes.has_unsearched → NotesFrame (info_view info) there.frame there.start there.end walk more → PartsSoFar source computes_md5 info old new more
+      → AddsFrame (info_view info) there.frame there.start walk more → more.end ≡ there.end → more.notes.has_unsearched ≡ walk.notes.has_unsearched → NotesFrame (info_view info) there.frame there.start there.end walk more → PartsSoFar source computes_md5 info old new (count + 1) more
   frame_more there is finds at adds end searched notes =
       let part : Part = IsFrame there in
       let value = decoded_view there.frame in
@@ -214,6 +211,7 @@ module _ {R A : Type 0} {source : R → Source ℕ} {computes_md5 : Bool} {info 
             record {
               parts = p.parts ++ part ∷ [];
               are = answered h new part is finds at k;
+              count_is = length-append p.parts (part ∷ []) ∙ ap (λ (z : ℕ). z + 1) p.count_is;
               frames = adds.frames_are ∙ ap (λ (z : ℕ). z + 1) p.frames ∙ sym (ap length frames_are ∙ length-append (part_frames p.parts) (value ∷ []));
               samples = adds.samples_are ∙ ap (λ (z : ℕ). z + frame_duration value) p.samples ∙ sym (ap (sum_by frame_duration) frames_are ∙ sum_by_push frame_duration (part_frames p.parts) value);
               sizes = subst (λ (fs : List FrameValue). AreSizesOf fs more.sizes) (sym frames_are) (adds.sizes (part_frames p.parts) value refl refl p.sizes);
@@ -231,7 +229,7 @@ module _ {R A : Type 0} {source : R → Source ℕ} {computes_md5 : Bool} {info 
 
   -- damage more
   damage_more : (damage : Damage) → (SourceIsKnown source mid → IsPart (parts_info mid) (parts_position mid) (unread source mid) (unread source new) (Some (IsDamage damage))) → (SourceIsKnown source mid → FindsFrame (parts_info mid) (unread source mid) (unread source new) (IsDamage damage)) → parts_position new ≡ damage.end
-      → AddsDamage (info_view info) damage walk more → NotesDamage damage walk more → PartsSoFar source computes_md5 info old new more
+      → AddsDamage (info_view info) damage walk more → NotesDamage damage walk more → PartsSoFar source computes_md5 info old new (count + 1) more
   damage_more damage is finds at adds notes =
       let part : Part = IsDamage damage in
       record {
@@ -245,6 +243,7 @@ module _ {R A : Type 0} {source : R → Source ℕ} {computes_md5 : Bool} {info 
             record {
               parts = p.parts ++ part ∷ [];
               are = answered h new part is finds at k;
+              count_is = length-append p.parts (part ∷ []) ∙ ap (λ (z : ℕ). z + 1) p.count_is;
               frames = adds.frames_are ∙ p.frames ∙ sym (ap length frames_are);
               samples = adds.samples_are ∙ p.samples ∙ sym (ap (sum_by frame_duration) frames_are);
               sizes = subst (λ (fs : List FrameValue). AreSizesOf fs more.sizes) (sym frames_are) (subst (AreSizesOf (part_frames p.parts)) (sym adds.sizes_are) p.sizes);
@@ -261,13 +260,13 @@ module _ {R A : Type 0} {source : R → Source ℕ} {computes_md5 : Bool} {info 
 
   -- a part more
   pub part_more : (part : Part) → (SourceIsKnown source mid → IsPart (parts_info mid) (parts_position mid) (unread source mid) (unread source new) (Some part)) → (SourceIsKnown source mid → FindsFrame (parts_info mid) (unread source mid) (unread source new) part) → parts_position new ≡ after_part (parts_position mid) (Some part)
-      → AddsPart (info_view info) part walk more → PartsSoFar source computes_md5 info old new more
+      → AddsPart (info_view info) part walk more → PartsSoFar source computes_md5 info old new (count + 1) more
   part_more (IsFrame there) is finds at adds = frame_more there is finds at adds.0 adds.1 adds.2 adds.3
   part_more (IsDamage damage) is finds at adds = damage_more damage is finds at adds.0 adds.1
 
 -- ---- the end
 
-pub walked : {R A : Type 0} {source : R → Source ℕ} {computes_md5 : Bool} {info : StreamInfo} {old mid : Parts R} {walk : Walk A} → parts_position old < 2 ^ 64 → PartsSoFar source computes_md5 info old mid walk → (SourceIsKnown source mid → unread source mid ≡ []) → WalksParts source computes_md5 info old walk
+pub walked : {R A : Type 0} {source : R → Source ℕ} {computes_md5 : Bool} {info : StreamInfo} {old mid : Parts R} {count : ℕ} {walk : Walk A} → parts_position old < 2 ^ 64 → PartsSoFar source computes_md5 info old mid count walk → (SourceIsKnown source mid → unread source mid ≡ []) → WalksParts source computes_md5 info old walk
 walked {source = source} {info = info} {old = old} {mid = mid} {walk = walk} small h none k counts counted =
     let p = h.is k in
     let left = none (h.known k) in

@@ -63,10 +63,10 @@ head_code s head front bytes is joined = let k = Reads-found_head.takes s head b
 fault_read : (s : List ℕ) (f : Fault) (at : BeginsWith (FoundHeadFault f) s) → found_head_at s ≡ Faulty f at.1
 fault_read s f at = ap found_head_at at.3 ∙ Reads-found_head.bad_again f at.0 at.1 at.2
 
-fault_begins : (s : List ℕ) (f : Fault) (rest : List ℕ) → found_head_at s ≡ Faulty f rest → BeginsWith (FoundHeadFault f) s
+pub fault_begins : (s : List ℕ) (f : Fault) (rest : List ℕ) → found_head_at s ≡ Faulty f rest → BeginsWith (FoundHeadFault f) s
 fault_begins s f rest is = let k = Reads-found_head.bad s f rest is in (k.0, rest, k.1, k.2)
 
-has_neither : (s : List ℕ) → found_head_at s ≡ Incomplete → HasNeither FoundHeadCode FoundHeadFault s
+pub has_neither : (s : List ℕ) → found_head_at s ≡ Incomplete → HasNeither FoundHeadCode FoundHeadFault s
 has_neither s is = record {
   no_code = λ head front bytes code joined. let p : Incomplete ≡ Done head bytes = sym is ∙ head_read s head front bytes code joined in cc;
   no_fault = λ f front rest bad joined. let p : Incomplete ≡ Faulty f rest = sym is ∙ fault_read s f (front, rest, bad, joined) in cc;
@@ -366,7 +366,7 @@ abbrev HeadAnswer : Type 0
 HeadAnswer = Result (StreamInfo × Option UnsupportedBlock) Error
 
 module _ (a m : State ℕ) where
-  refused : (e : Error) → GivesOrOutOfMemory found_head_view (let r : HeadAnswer = Err e in r) found_head_at a m → (e ≡ OutOfMemory) ⊎ (IsIo e × ReadFailedOrRemaining a m (λ s. found_head_at s ≡ Incomplete)) ⊎ Consumes a m (λ s k. IsFaultOf e (found_head_at s) k)
+  pub refused : (e : Error) → GivesOrOutOfMemory found_head_view (let r : HeadAnswer = Err e in r) found_head_at a m → (e ≡ OutOfMemory) ⊎ (IsIo e × ReadFailedOrRemaining a m (λ s. found_head_at s ≡ Incomplete)) ⊎ Consumes a m (λ s k. IsFaultOf e (found_head_at s) k)
   refused (IoError cause) h = inr (inl (refl, h.failure refl))
   refused (FormatError text) h = inr (inr (h.fault refl))
   refused (Unsupported text) h = inr (inr (h.fault refl))

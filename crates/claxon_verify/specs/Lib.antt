@@ -1,5 +1,6 @@
 pub mod Kept
 pub mod Notes
+pub mod PartFaults
 pub mod Places
 pub mod RightStream
 pub mod StreamHead

@@ -163,8 +163,8 @@ pub record PartsCounted (info : StreamInfo) (start : ℕ) (s : List ℕ) (counts
     pub kept : AreKept (places_of (info_view info) end found) counts.first counts.more
         counts.left_out
 
--- s is a head and parts up to the end, and the report and its notes are about them, which say whether
--- each position of damage was searched.
+-- s is a head and parts up to the end, and the report and its notes are about them. The notes say
+-- whether each position of damage was searched.
 pub record IsOfParts (computes_md5 : Bool) (s : List ℕ) (report : ReportValue) (notes : Notes)
     : Type 0 where
   pub head : FoundHead

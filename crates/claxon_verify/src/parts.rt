@@ -1,5 +1,5 @@
 //! Streams that are verified by their parts: frames, and the damage between them.
-ghost use Rattle.std.specs.Prelude.{◌≡◌, ◌<◌, ◌≤◌, ◌↔◌, ◌^◌, IfOk, false, length};
+ghost use Rattle.std.specs.Prelude.{◌≡◌, ◌<◌, ◌≤◌, ◌↔◌, ◌^◌, IfErr, IfOk, false, length};
 ghost use Rattle.claxon.specs.MetadataBlock.{info_view};
 ghost use Rattle.claxon.specs.ShownHead.{HasBitDepth};
 ghost use Rattle.claxon.specs.State.{bytes_in};
@@ -13,6 +13,12 @@ ghost use Rattle.claxon_verify.specs.VerifiedParts.{
   PartsReportIsSound,
   WalksParts,
   is_byte_left,
+};
+ghost use Rattle.claxon_verify.specs.PartFaults.{
+  ExceedsPart,
+  KeepsLoansOrHead,
+  PartsFaultIsSound,
+  StopsWalk,
 };
 ghost use Rattle.claxon_verify.specs.Verify.{
   KeepsAtMost,
@@ -54,6 +60,8 @@ pub fn verify_parts<R: ReadBytes, E: Write>(
     progress: &mut Progress<'_, '_, E>,
 ) -> Result<Report>
     ensures is_sound { PartsReportIsSound computes_md5 (bytes_in R.source input.old) result }
+    ensures fault_is_sound { PartsFaultIsSound (bytes_in R.source input.old) result
+        (bytes_in R.source input.new) }
     ensures keeps_at_most { KeepsAtMost more result }
     ensures is_quiet { VerifyIsQuiet result progress.old progress.new }
 {
@@ -71,6 +79,10 @@ fn verify_counted_parts<R: ReadBytes, E: Write>(
 ) -> Result<Report>
     requires { position_of input.old ≡ 0 }
     ensures is_sound { PartsReportIsSound computes_md5 (counted_bytes R.source input.old) result }
+    ensures fault_is_sound { PartsFaultIsSound (counted_bytes R.source input.old) result
+        (counted_bytes R.source input.new) }
+    ensures loans { KeepsLoansOrHead (counted_bytes R.source input.old) result
+        (counted_bytes R.source input.new) }
     ensures keeps_at_most { KeepsAtMost more result }
     ensures is_quiet { VerifyIsQuiet result progress.old progress.new }
 {
@@ -99,6 +111,7 @@ fn walk_parts<R: ReadBytes, E: Write>(
     ensures ok { IfOk result (WalksParts R.source computes_md5 info parts.old) }
     ensures few { IfOk result (λ walk. (walk.places.more ≡ more)
         × (length walk.places.places.more.items ≤ more)) }
+    ensures err { IfErr result (StopsWalk R.source info parts.old parts.new) }
     ensures stays_quiet { StaysQuiet progress.old progress.new }
 {
     let mut walk = Walk {
@@ -119,6 +132,7 @@ fn walk_parts<R: ReadBytes, E: Write>(
 fn with_part(walk: Walk<Global>, info: StreamInfo, part: Part) -> Result<Walk<Global>>
     requires has_bit_depth { HasBitDepth info }
     ensures adds_part { IfOk result (AddsPart (info_view info) part walk) }
+    ensures err { IfErr result (ExceedsPart part walk) }
 {
     match part {
         Part::Frame(there) => {
