@@ -43,6 +43,7 @@ module _ {B : Type 0} {a m : State ℕ} (b : State ℕ) {head : FoundHead} {stre
           frame_size = n.frame_size;
           byte_left = n.byte_left;
           failed_read = n.failed_read;
+          searched = n.searched;
         },
       )
 
@@ -57,6 +58,7 @@ module _ {B : Type 0} {a m : State ℕ} (b : State ℕ) {head : FoundHead} {stre
       frame_size = h.1.frame_size;
       byte_left = h.1.byte_left;
       failed_read = h.1.failed_read;
+      searched = h.1.searched;
     }),
   )
 

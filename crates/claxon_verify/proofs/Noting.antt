@@ -118,13 +118,14 @@ not_failed (FormatError text) io h = h
 not_failed (Unsupported text) io h = h
 not_failed OutOfMemory io h = h
 
--- They were noted: no byte is left so far, and no read failed.
+-- They were noted: no byte is left so far, no read failed, and nothing had to be searched.
 pub record NotedSoFar {A : Type 0} (stream : Option StreamFormat) (info : Streaminfo) (s m : List ℕ) (parts : List FrameOrFault) (walk : Walk A) : Type 0 where
   pub sizes : List ℕ
   pub sizes_are : FrameSizes stream s parts m sizes
   pub noted : SizesNoted info (map frame_duration (frames_of parts)) sizes walk
   pub none_left : walk.notes.has_byte_left ≡ false
   pub none_failed : walk.notes.has_failed_read ≡ false
+  pub searched : walk.notes.has_unsearched ≡ false
 
 pub nothing_so_far : {A : Type 0} (stream : Option StreamFormat) (info : Streaminfo) (s : List ℕ) (walk : Walk A) → NothingNoted walk → NotedSoFar stream info s s [] walk
 nothing_so_far stream info s walk none = record {
@@ -133,6 +134,7 @@ nothing_so_far stream info s walk none = record {
   noted = none_noted info walk none;
   none_left = none.byte_left;
   none_failed = none.failed_read;
+  searched = none.searched;
 }
 
 module _ {A : Type 0} {stream : Option StreamFormat} {info : Streaminfo} {s m : List ℕ} {parts : List FrameOrFault} {old new : Walk A} (h : NotedSoFar stream info s m parts old) (t n : List ℕ) (joined : m ≡ t ++ n) where
@@ -148,6 +150,7 @@ module _ {A : Type 0} {stream : Option StreamFormat} {info : Streaminfo} {s m : 
         noted = subst (λ (z : List ℕ). SizesNoted info z (h.sizes ++ frame_size_of part t) new) (sym blocks) (subst (λ (k : ℕ). SizesNoted info (map frame_duration (frames_of parts) ++ frame_duration (decoded_view frame) ∷ []) (h.sizes ++ k ∷ []) new) (size_is start end (length t) fits moved) (frame_noted h.noted notes));
         none_left = notes.sizes.byte_left;
         none_failed = notes.sizes.failed_read ∙ h.none_failed;
+        searched = notes.sizes.searched ∙ h.searched;
       }
 
   pub fault_so_far : (f : Fault) (error : Error) → FrameBytesFault stream f t → is_io error ≡ false → NotesFault error old new → (let part : FrameOrFault = Err f in frames_of (parts ++ part ∷ []) ≡ frames_of parts) → (let part : FrameOrFault = Err f in NotedSoFar stream info s n (parts ++ part ∷ []) new)
@@ -159,6 +162,7 @@ module _ {A : Type 0} {stream : Option StreamFormat} {info : Streaminfo} {s m : 
         noted = subst (λ (fs : List FrameValue). SizesNoted info (map frame_duration fs) (h.sizes ++ []) new) (sym frames_are) (subst (λ (z : List ℕ). SizesNoted info (map frame_duration (frames_of parts)) z new) (sym (append-nil h.sizes)) (sizes_kept h.noted notes.block_size notes.short notes.frame_size));
         none_left = notes.byte_left ∙ h.none_left;
         none_failed = not_there new.notes.has_failed_read (λ t. elim (notes.failed_read.0 t) [ inl failed ↦ false≢true (sym h.none_failed ∙ failed) | inr failed ↦ not_failed error io failed ]);
+        searched = notes.searched ∙ h.searched;
       }
 
 -- ---- the end

@@ -26,6 +26,7 @@ use Rattle.claxon_verify.specs.RightStream.{bytes_of_frames}
 use Rattle.claxon_verify.specs.Verify.{Counts, IsRight, Md5Is, NothingIsWrong, counted_bytes, report_view, sum_of, update_position}
 use Rattle.claxon_verify.specs.Walk.{IsCounted}
 use Rattle.claxon_verify.specs.declared.report.BlockSizes.{BlockSizes}
+use Rattle.claxon_verify.specs.declared.report.Notes.{Notes}
 use Rattle.claxon_verify.specs.declared.report.Place.{Place}
 use Rattle.claxon_verify.specs.declared.report.Report.{Report}
 use Rattle.claxon_verify.specs.declared.report.UnsupportedBlock.{UnsupportedBlock}
@@ -50,15 +51,16 @@ CountsParts computes_md5 info start m walk =
 
 pub parts_verified : {a m : State ℕ} {head : FoundHead} {stream : Option StreamFormat} {start : ℕ} (h : HeadIsConsumed a m head stream start) (computes_md5 : Bool) {A B : Type 0} (info : StreamInfo) (walk : Walk A) (report : Report B) (of_info : head.info ≡ info_view info) (unsupported_is : report.unsupported ≡ head.unsupported) (small : start < 2 ^ 64) (walks : CountsParts computes_md5 info start m walk) (info_is : report.info ≡ info)
     (frames_are : report.found.frames ≡ walk.frames) (samples_are : report.found.samples ≡ walk.samples) (kept : (all : List Place) → Keeps all walk.places → AreKept (places_at walk.end (or_zero info.samples) (record { scan = walk.scan; places = all })) report.found.places.first report.found.places.more.items report.found.places.left_out) (sizes_are : report.found.notes.changed_block_size ≡ walk.sizes.changed)
-    (md5_is : Md5IsJudged (info_view info) walk.md5 report.md5) (md5_shown : Md5IsShown walk.md5 report.computed_md5) (unsupported : Option UnsupportedBlock) (given : report.unsupported ≡ unsupported) (right : IsTrue report.is_right ↔ ((unsupported ≡ None) × NothingIsWrong report.found (or_zero info.samples) report.md5)) (searched : report.found.notes.has_unsearched ≡ walk.notes.has_unsearched)
+    (md5_is : Md5IsJudged (info_view info) walk.md5 report.md5) (md5_shown : Md5IsShown walk.md5 report.computed_md5) (unsupported : Option UnsupportedBlock) (given : report.unsupported ≡ unsupported) (right : IsTrue report.is_right ↔ ((unsupported ≡ None) × NothingIsWrong report.found (or_zero info.samples) report.md5))
     (changed : Option BlockSizes) (same : report.found.notes ≡ record walk.notes { changed_block_size = changed }) → PartsReportIsSound computes_md5 a (Ok report)
-parts_verified {a} {m} {head} {stream} {start} h computes_md5 info walk report of_info unsupported_is small walks info_is frames_are samples_are kept sizes_are md5_is md5_shown unsupported given right searched changed same known =
+parts_verified {a} {m} {head} {stream} {start} h computes_md5 info walk report of_info unsupported_is small walks info_is frames_are samples_are kept sizes_are md5_is md5_shown unsupported given right changed same known =
     let s = h.is known in
     let w = walks (h.known known) (report_view report).counts (record { frames_are = frames_are; samples_are = samples_are; kept = kept; sizes_are = sizes_are }) in
     let frames = part_frames w.0.parts in
     let verdict = judged_md5 computes_md5 (info_view info) frames walk.md5 report.md5 w.1 md5_is in
     let sum = shown_md5 computes_md5 (info_view info) frames walk.md5 report.computed_md5 w.1 md5_shown in
     let begins = s.3 in
+    let searched : report.found.notes.has_unsearched ≡ walk.notes.has_unsearched = ap (λ (z : Notes). z.has_unsearched) same in
     record {
       head = head;
       front = s.0;

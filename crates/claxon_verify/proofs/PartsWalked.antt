@@ -127,9 +127,9 @@ with_end end walk = record {
   after = walk.after;
 }
 
-pub none_found : {R A : Type 0} (source : R → Source ℕ) (computes_md5 : Bool) (info : StreamInfo) (start more : ℕ) (old : Parts R) (walk : Walk A) → parts_info old ≡ info → parts_position old ≡ start → BeginsWalk computes_md5 more walk → NothingNoted walk → walk.notes.has_unsearched ≡ false → PartsSoFar source computes_md5 info old old 0 (with_end start walk)
+pub none_found : {R A : Type 0} (source : R → Source ℕ) (computes_md5 : Bool) (info : StreamInfo) (start more : ℕ) (old : Parts R) (walk : Walk A) → parts_info old ≡ info → parts_position old ≡ start → BeginsWalk computes_md5 more walk → NothingNoted walk → PartsSoFar source computes_md5 info old old 0 (with_end start walk)
 unfolding Rattle.claxon_md5.specs.WholeBytes.whole_bytes_of_samples
-none_found source computes_md5 info start more old walk same at begins none searched = record {
+none_found source computes_md5 info start more old walk same at begins none = record {
   info_is = same;
   end_is = sym at;
   known = λ k. k;
@@ -146,8 +146,8 @@ none_found source computes_md5 info start more old walk same at begins none sear
     places = [];
     scan = ap (λ (z : Scan). record { scan = z; places = [] }) (sym begins.scan_is);
     keeps = begins.keeps;
-    searched = (λ e. tt, λ h. searched);
-    noted = nothing_of_parts (info_view info) (with_end start walk) (record { block_size = none.block_size; short = none.short; frame_size = none.frame_size; byte_left = none.byte_left; failed_read = none.failed_read });
+    searched = (λ e. tt, λ h. none.searched);
+    noted = nothing_of_parts (info_view info) (with_end start walk) (record { block_size = none.block_size; short = none.short; frame_size = none.frame_size; byte_left = none.byte_left; failed_read = none.failed_read; searched = none.searched });
   };
 }
 
@@ -195,8 +195,8 @@ answered {source = source} {info = info} {old = old} {mid = mid} h new part is f
 module _ {R A : Type 0} {source : R → Source ℕ} {computes_md5 : Bool} {info : StreamInfo} {old mid new : Parts R} {count : ℕ} {walk more : Walk A} (h : PartsSoFar source computes_md5 info old mid count walk) (same : parts_info new ≡ parts_info mid) (known : SourceIsKnown source mid → SourceIsKnown source new) where
   -- a frame more
   frame_more : (there : FrameThere) → (SourceIsKnown source mid → IsPart (parts_info mid) (parts_position mid) (unread source mid) (unread source new) (Some (IsFrame there))) → (SourceIsKnown source mid → FindsFrame (parts_info mid) (unread source mid) (unread source new) (IsFrame there)) → parts_position new ≡ there.end
-      → AddsFrame (info_view info) there.frame there.start walk more → more.end ≡ there.end → more.notes.has_unsearched ≡ walk.notes.has_unsearched → NotesFrame (info_view info) there.frame there.start there.end walk more → PartsSoFar source computes_md5 info old new (count + 1) more
-  frame_more there is finds at adds end searched notes =
+      → AddsFrame (info_view info) there.frame there.start walk more → more.end ≡ there.end → NotesFrame (info_view info) there.frame there.start there.end walk more → PartsSoFar source computes_md5 info old new (count + 1) more
+  frame_more there is finds at adds end notes =
       let part : Part = IsFrame there in
       let value = decoded_view there.frame in
       let scanned = scan_frame (info_view info) there.start adds.found walk.scan in
@@ -222,7 +222,7 @@ module _ {R A : Type 0} {source : R → Source ℕ} {computes_md5 : Bool} {info 
               places = p.places ++ list_of scanned.place;
               scan = scan_append (info_view info) (record { scan = begun_scan; places = [] }) p.found here ∙ ap (λ (z : Scans). scan_more (info_view info) z (record { start = there.start; what = Ok adds.found })) p.scan ∙ ap (λ (z : Scan). record { scan = z; places = p.places ++ list_of scanned.place }) (sym adds.scan_is);
               keeps = adds.places.keeps p.places p.keeps;
-              searched = let q = searched_push p.parts part in (λ e. q.1 (p.searched.0 (sym searched ∙ e), tt), λ all. searched ∙ p.searched.1 (q.0 all).0);
+              searched = let q = searched_push p.parts part in (λ e. q.1 (p.searched.0 (sym notes.sizes.searched ∙ e), tt), λ all. notes.sizes.searched ∙ p.searched.1 (q.0 all).0);
               noted = frame_part_so_far p.noted there notes frames_are;
             };
       }
@@ -261,7 +261,7 @@ module _ {R A : Type 0} {source : R → Source ℕ} {computes_md5 : Bool} {info 
   -- a part more
   pub part_more : (part : Part) → (SourceIsKnown source mid → IsPart (parts_info mid) (parts_position mid) (unread source mid) (unread source new) (Some part)) → (SourceIsKnown source mid → FindsFrame (parts_info mid) (unread source mid) (unread source new) part) → parts_position new ≡ after_part (parts_position mid) (Some part)
       → AddsPart (info_view info) part walk more → PartsSoFar source computes_md5 info old new (count + 1) more
-  part_more (IsFrame there) is finds at adds = frame_more there is finds at adds.0 adds.1 adds.2 adds.3
+  part_more (IsFrame there) is finds at adds = frame_more there is finds at adds.0 adds.1 adds.2
   part_more (IsDamage damage) is finds at adds = damage_more damage is finds at adds.0 adds.1
 
 -- ---- the end

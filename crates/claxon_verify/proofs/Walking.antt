@@ -339,6 +339,7 @@ module _ {A : Type 0} {computes_md5 : Bool} {stream : Option StreamFormat} {info
           frame_size = notes.frame_size ∙ p.noted.noted.frame_size;
           byte_left = (λ t. let e = notes.byte_left.0 t in (refl, left.0 e.0, begun ∙ e.1), λ x. notes.byte_left.1 (left.1 x.1, sym begun ∙ x.2));
           failed_read = not_so more.notes.has_failed_read (notes.failed_read ∙ p.noted.none_failed) (λ x. x);
+          searched = notes.searched ∙ p.noted.searched;
         },
       )
 
@@ -425,6 +426,7 @@ module _ {A : Type 0} {computes_md5 : Bool} {stream : Option StreamFormat} {info
             frame_size = notes.frame_size ∙ n.noted.frame_size;
             byte_left = not_so more.notes.has_byte_left (notes.byte_left ∙ n.none_left) (λ x. let z : true ≡ false = x.0 in cc);
             failed_read = (λ t. elim (notes.failed_read.0 t) [ inl failed ↦ absurd (let z : false ≡ true = sym n.none_failed ∙ failed in cc) | inr failed ↦ failed ], λ failed. notes.failed_read.1 (inr failed));
+            searched = notes.searched ∙ n.searched;
           },
         )
 

@@ -121,7 +121,7 @@ SaysFailedRead (part ∷ parts) = IsErrAnd part.what (λ e. IsFailedRead e.error
 -- ---- the notes of a stream
 
 -- The notes are those of what was counted. A byte is left where the stream doesn't end inside a
--- frame, something is left of it, and no place goes on there.
+-- frame, something is left of it, and no place goes on there. Nothing has to be searched.
 pub record NotesAre {failed : Type 0} {stream : Option StreamFormat} {info : Streaminfo} {start : ℕ}
     {s : List ℕ} {counts : Counts} (counted : Counted failed stream info start s counts)
     (notes : Notes) : Type 0 where
@@ -133,6 +133,7 @@ pub record NotesAre {failed : Type 0} {stream : Option StreamFormat} {info : Str
   pub byte_left : IsTrue notes.has_byte_left
       ↔ ((counted.is_cut ≡ false) × (counted.rest ≢ []) × NoneGoesOn info counted.found)
   pub failed_read : IsTrue notes.has_failed_read ↔ SaysFailedRead counted.last
+  pub searched : notes.has_unsearched ≡ false
 
 -- s is a head, frames and faults up to the end, which were counted, and the notes are theirs.
 pub record IsNoted (failed : Type 0) (s : List ℕ) (counts : Counts) (notes : Notes) : Type 0 where
@@ -160,6 +161,7 @@ pub record NothingNoted {A : Type 0} (walk : Walk A) : Type 0 where
   pub frame_size : walk.notes.has_other_frame_size ≡ false
   pub byte_left : walk.notes.has_byte_left ≡ false
   pub failed_read : walk.notes.has_failed_read ≡ false
+  pub searched : walk.notes.has_unsearched ≡ false
 
 -- The notes after a frame more, with such a block size, from one position to another. The block
 -- before it counts as one that isn't the last.
@@ -171,6 +173,7 @@ pub record NotesSizes (info : Streaminfo) (is_short : Bool) (size start end : �
       ≡ (old.has_other_frame_size || is_other_frame_size info (bytes_between start end))
   pub byte_left : new.has_byte_left ≡ false
   pub failed_read : new.has_failed_read ≡ old.has_failed_read
+  pub searched : new.has_unsearched ≡ old.has_unsearched
 
 -- One frame more was noted, from one position to another.
 pub record NotesFrame {A B : Type 0} (info : Streaminfo) (frame : DecodedFrame B) (start end : ℕ)
@@ -187,6 +190,7 @@ pub record NotesFault {A : Type 0} (error : Error) (old new : Walk A) : Type 0 w
   pub byte_left : new.notes.has_byte_left ≡ old.notes.has_byte_left
   pub failed_read : IsTrue new.notes.has_failed_read
       ↔ (IsTrue old.notes.has_failed_read ⊎ IsFailedRead error)
+  pub searched : new.notes.has_unsearched ≡ old.notes.has_unsearched
 
 -- The bytes that are left, from one position to another, were noted.
 pub record NotesEnd {A : Type 0} (start end : ℕ) (old new : Walk A) : Type 0 where
@@ -194,6 +198,7 @@ pub record NotesEnd {A : Type 0} (start end : ℕ) (old new : Walk A) : Type 0 w
   pub frame_size : new.notes.has_other_frame_size ≡ old.notes.has_other_frame_size
   pub byte_left : IsTrue new.notes.has_byte_left ↔ ((start ≢ end) × (old.scan.begun ≡ None))
   pub failed_read : new.notes.has_failed_read ≡ old.notes.has_failed_read
+  pub searched : new.notes.has_unsearched ≡ old.notes.has_unsearched
 
 -- The remaining bytes, which begin at the byte `start` of the stream, were counted so, and the
 -- notes are those of what was counted.

@@ -224,7 +224,6 @@ pub record NotesDamage {A : Type 0} (damage : DamagePart) (old new : Walk A) : T
 abbrev pub AddsPart : {A : Type 0} → Streaminfo → Part → Walk A → Walk A → Type 0
 AddsPart info (IsFrame there) old new =
     AddsFrame info there.frame there.start old new × (new.end ≡ there.end)
-    × (new.notes.has_unsearched ≡ old.notes.has_unsearched)
     × NotesFrame info there.frame there.start there.end old new
 AddsPart info (IsDamage damage) old new =
     AddsDamage info damage old new × NotesDamage damage old new

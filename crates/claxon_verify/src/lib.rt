@@ -194,7 +194,6 @@ fn report_of<A: Allocator>(
     ensures few { length walk.places.places.more.items ≤ walk.places.more
         → length result.found.places.more.items ≤ walk.places.more }
     ensures sizes { result.found.notes.changed_block_size ≡ walk.sizes.changed }
-    ensures searched { result.found.notes.has_unsearched ≡ walk.notes.has_unsearched }
     ensures notes { result.found.notes
         ≡ (record walk.notes { changed_block_size = walk.sizes.changed }) }
     ensures md5_is_judged { Md5IsJudged (info_view info) walk.md5 result.md5 }

@@ -70,7 +70,6 @@ impl<A: Allocator> Walk<A> {
     pub fn new(alloc: A, computes_md5: bool, more: usize) -> Walk<A>
         ensures begins_walk { BeginsWalk computes_md5 more result }
         ensures nothing_noted { NothingNoted result }
-        ensures searched { result.notes.has_unsearched ≡ false }
     {
         Walk {
             frames: 0,
@@ -111,7 +110,6 @@ pub(crate) fn with_frame<A: Allocator, B: Allocator>(
     ensures ok { IfOk result (AddsFrame (info_view info) frame.now span.start walk) }
     ensures end { IfOk result (λ more. more.end ≡ span.end) }
     ensures notes { IfOk result (NotesFrame (info_view info) frame.now span.start span.end walk) }
-    ensures searched { IfOk result (λ more. more.notes.has_unsearched ≡ walk.notes.has_unsearched) }
     ensures err { IfErr result (ExceedsCount frame.now walk) }
 {
     let duration = frame.block.duration();
@@ -173,9 +171,7 @@ fn with_sizes(
     duration: u32,
     span: ByteRange,
 ) -> Notes
-    ensures notes { NotesSizes (info_view info.now) is_short duration span.start span.end
-        notes result }
-    ensures searched { result.has_unsearched ≡ notes.has_unsearched }
+    ensures { NotesSizes (info_view info.now) is_short duration span.start span.end notes result }
 {
     let bytes = span.end.wrapping_sub(span.start);
     Notes {

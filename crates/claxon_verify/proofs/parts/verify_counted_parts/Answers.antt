@@ -23,7 +23,7 @@ returns-clause-is_sound g c =
     let from = counts_from source c.args.computes_md5 info c.value-start.result.bytes _ c.in_ok-parts.parts walk c.in_ok-parts.ensures.begins c.in_ok-walk.ensures.ok in
     let walks = subst (λ (n : ℕ). CountsParts c.args.computes_md5 info n m walk) at from in
     let fits = c.walk_parts.ensures.fits in
-    parts_verified h c.args.computes_md5 info walk c.report_of.result refl r.unsupported (subst (λ (n : ℕ). n < 2 ^ 64) at fits) walks r.info r.frames r.samples r.kept r.sizes r.md5_is_judged r.md5_is_shown c.in_ok-info.unsupported r.unsupported r.is_right r.searched walk.sizes.changed r.notes
+    parts_verified h c.args.computes_md5 info walk c.report_of.result refl r.unsupported (subst (λ (n : ℕ). n < 2 ^ 64) at fits) walks r.info r.frames r.samples r.kept r.sizes r.md5_is_judged r.md5_is_shown c.in_ok-info.unsupported r.unsupported r.is_right walk.sizes.changed r.notes
 
 pub returns-in_err-info-clause-fault_is_sound : goal.returns-in_err-info-clause-fault_is_sound
 returns-in_err-info-clause-fault_is_sound g c =

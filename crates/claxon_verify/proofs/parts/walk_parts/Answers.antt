@@ -12,7 +12,7 @@ use Rattle.claxon_verify.proofs.parts.walk_parts.Goals as goal
 
 pub loop-init : goal.loop-init
 loop-init g c = record {
-  so_far = none_found g.R.ReadBytes.source c.args.computes_md5 c.args.info c.args.start c.args.more c.args.parts.now c.new.result c.requires.same_info c.requires.at_start c.new.ensures.begins_walk c.new.ensures.nothing_noted c.new.ensures.searched;
+  so_far = none_found g.R.ReadBytes.source c.args.computes_md5 c.args.info c.args.start c.args.more c.args.parts.now c.new.result c.requires.same_info c.requires.at_start c.new.ensures.begins_walk c.new.ensures.nothing_noted;
   reads = ([], reads_none _);
   quiet = λ none. (refl, refl);
   total = refl;
