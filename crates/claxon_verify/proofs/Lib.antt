@@ -34,3 +34,19 @@ pub mod StreamHeads
 pub mod SupportedHeads
 -- Faults of blocks that are passed over, by their texts.
 pub mod UnsupportedFaults
+-- Bytes that have the same bits.
+pub mod SameBytes
+-- What is kept of bytes that are no frame.
+pub mod Tails
+-- Bytes that begin with the sync code of a frame, or with none.
+pub mod SyncCodes
+-- Bytes from the place on that goes on, one part after another.
+pub mod Trailed
+-- What stands after the last frame of a stream that is verified by its parts.
+pub mod PartsTrailed
+-- The last of some bytes.
+pub mod LastBytes
+-- The first bytes of a fault.
+pub mod FaultBytes
+-- What stands after the last frame of a stream that is verified frame by frame.
+pub mod FramesTrailed

@@ -36,7 +36,7 @@ use Rattle.claxon_verify.proofs.PartsNoted.{same_notes}
 use Rattle.claxon_verify.proofs.Verified.{HeadIsConsumed, head_code, judged_md5, shown_md5}
 
 -- what a report says of itself
-right_report : {A : Type 0} (report : Report A) (unsupported : Option UnsupportedBlock) (info : StreamInfo) → report.unsupported ≡ unsupported → report.info ≡ info → (IsTrue report.is_right ↔ ((unsupported ≡ None) × NothingIsWrong report.found (or_zero info.samples) report.md5)) → IsRight (report_view report)
+pub right_report : {A : Type 0} (report : Report A) (unsupported : Option UnsupportedBlock) (info : StreamInfo) → report.unsupported ≡ unsupported → report.info ≡ info → (IsTrue report.is_right ↔ ((unsupported ≡ None) × NothingIsWrong report.found (or_zero info.samples) report.md5)) → IsRight (report_view report)
 right_report report unsupported info given info_is right =
     let flat : IsTrue report.is_right ↔ ((report.unsupported ≡ None) × (report.found.places.first ≡ None) × ((or_zero info.samples ≡ 0) ⊎ (or_zero info.samples ≡ report.found.samples)) × (report.md5 ≢ Wrong)) =
     (λ t. let k = right.0 t in (given ∙ k.0, k.1.0, k.1.1, k.1.2), λ k. right.1 (sym given ∙ k.0, (k.1, k.2, k.3))) in
@@ -49,7 +49,7 @@ CountsParts computes_md5 info start m walk =
     → (counts : Counts) → IsCounted walk (or_zero info.samples) counts
     → (counted : PartsCounted info start m.remaining counts) × HasHashedBytes computes_md5 (bytes_of_frames (info_view info).bit_depth (part_frames counted.parts)) walk.md5 × ((walk.notes.has_unsearched ≡ false) ↔ AreSearched counted.parts) × NotesOfParts (info_view info) counted.parts counted.found walk.notes
 
-pub parts_verified : {a m : State ℕ} {head : FoundHead} {stream : Option StreamFormat} {start : ℕ} (h : HeadIsConsumed a m head stream start) (computes_md5 : Bool) {A B : Type 0} (info : StreamInfo) (walk : Walk A) (report : Report B) (of_info : head.info ≡ info_view info) (unsupported_is : report.unsupported ≡ head.unsupported) (small : start < 2 ^ 64) (walks : CountsParts computes_md5 info start m walk) (info_is : report.info ≡ info)
+unfoldable pub parts_verified : {a m : State ℕ} {head : FoundHead} {stream : Option StreamFormat} {start : ℕ} (h : HeadIsConsumed a m head stream start) (computes_md5 : Bool) {A B : Type 0} (info : StreamInfo) (walk : Walk A) (report : Report B) (of_info : head.info ≡ info_view info) (unsupported_is : report.unsupported ≡ head.unsupported) (small : start < 2 ^ 64) (walks : CountsParts computes_md5 info start m walk) (info_is : report.info ≡ info)
     (frames_are : report.found.frames ≡ walk.frames) (samples_are : report.found.samples ≡ walk.samples) (kept : (all : List Place) → Keeps all walk.places → AreKept (places_at walk.end (or_zero info.samples) (record { scan = walk.scan; places = all })) report.found.places.first report.found.places.more.items report.found.places.left_out) (sizes_are : report.found.notes.changed_block_size ≡ walk.sizes.changed)
     (md5_is : Md5IsJudged (info_view info) walk.md5 report.md5) (md5_shown : Md5IsShown walk.md5 report.computed_md5) (unsupported : Option UnsupportedBlock) (given : report.unsupported ≡ unsupported) (right : IsTrue report.is_right ↔ ((unsupported ≡ None) × NothingIsWrong report.found (or_zero info.samples) report.md5))
     (changed : Option BlockSizes) (same : report.found.notes ≡ record walk.notes { changed_block_size = changed }) → PartsReportIsSound computes_md5 a (Ok report)

@@ -266,7 +266,7 @@ module _ {R A : Type 0} {source : R → Source ℕ} {computes_md5 : Bool} {info 
 
 -- ---- the end
 
-pub walked : {R A : Type 0} {source : R → Source ℕ} {computes_md5 : Bool} {info : StreamInfo} {old mid : Parts R} {count : ℕ} {walk : Walk A} → parts_position old < 2 ^ 64 → PartsSoFar source computes_md5 info old mid count walk → (SourceIsKnown source mid → unread source mid ≡ []) → WalksParts source computes_md5 info old walk
+unfoldable pub walked : {R A : Type 0} {source : R → Source ℕ} {computes_md5 : Bool} {info : StreamInfo} {old mid : Parts R} {count : ℕ} {walk : Walk A} → parts_position old < 2 ^ 64 → PartsSoFar source computes_md5 info old mid count walk → (SourceIsKnown source mid → unread source mid ≡ []) → WalksParts source computes_md5 info old walk
 walked {source = source} {info = info} {old = old} {mid = mid} {walk = walk} small h none k counts counted =
     let p = h.is k in
     let left = none (h.known k) in

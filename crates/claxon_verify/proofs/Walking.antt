@@ -1,5 +1,5 @@
 -- Frames and faults that are found, one after another.
-use Rattle.std.proofs.Common.{◌≡◌, ◌⊎◌, ◌<◌, ◌≤◌, ◌+◌, ◌%◌, ◌^◌, ℕ, true, false, List, [], ◌∷◌, ◌++◌, length, inl, inr, refl, sym, ap, arith, subst, ◌∙◌, length-append, zero-add}
+use Rattle.std.proofs.Common.{◌≡◌, ◌⊎◌, ◌<◌, ◌≤◌, ◌+◌, ◌*◌, ◌%◌, ◌^◌, ℕ, true, false, List, [], ◌∷◌, ◌++◌, length, inl, inr, refl, sym, ap, arith, subst, ◌∙◌, length-append, zero-add}
 use Rattle.std.specs.Prelude.{Bool, IsTrue, Option, None, Some, Ok, Err, Result, ◌↔◌}
 use Rattle.std.specs.List.{sum_by}
 use Rattle.std.proofs.lemmas.Grind.{flat_map-append}
@@ -21,7 +21,7 @@ use Rattle.claxon.specs.Promises.{Consumed}
 use Rattle.claxon.specs.Source.{IsKnown, Source}
 use Rattle.claxon.specs.State.{State, bytes_in, values_at_eof, remaining_as, RemainingIsKnown, final_values}
 use Rattle.claxon.specs.Streaminfo.{Streaminfo}
-use Rattle.claxon.specs.RunningReader.{running_inner}
+use Rattle.claxon.specs.RunningReader.{running_inner, running_value}
 use Rattle.claxon.specs.RunningReaders.{RunningReader}
 use Rattle.claxon.proofs.Loans.{reads_loans}
 use Rattle.claxon_md5.specs.WholeBytes.{whole_bytes_of_samples}
@@ -30,7 +30,7 @@ use Rattle.claxon_blocks.specs.Frames.{HasHeader, Is32BitFault}
 use Rattle.claxon_verify.specs.RightStream.{bytes_of_frames, frame_duration, samples_of_frames}
 use Rattle.claxon_verify.specs.Kept.{AreKept, Keeps}
 use Rattle.claxon_verify.specs.Places.{FoundPart, Scans, begun_scan, damaged, list_of, places_at, scan_frame, scan_more, scan_parts}
-use Rattle.claxon_verify.specs.Verify.{CanBeCounted, FrameOrFault, FrameOrFaultBytes, FramesAndFaults, IsTooMany, PartsFound, StopsCounting, counted_bytes, fault_count_of, frame_count_of, frames_of, position_of, sample_count_of}
+use Rattle.claxon_verify.specs.Verify.{CanBeCounted, FrameOrFault, FrameOrFaultBytes, FramesAndFaults, IsTooMany, PartsFound, StopsCounting, counted_bytes, fault_count_of, frame_count_of, frames_of, last_of, last_read, position_of, sample_count_of, update_position}
 use Rattle.claxon_blocks.specs.Frames.{IsNotWhole}
 use Rattle.claxon_verify.specs.Notes.{NotesEnd, NotesFault, NotesFrame, NothingNoted, WalkIsNoted}
 use Rattle.claxon_verify.specs.Walk.{AddsFault, AddsFrame, AreSizesOf, BeginsWalk, EndsWalk, ExceedsCount, WalksToEnd}
@@ -52,29 +52,37 @@ use Rattle.claxon_verify.proofs.Scanning.{found_push, scan_push}
 
 -- ---- the position
 
-end_of : (p q : Option (List ℕ)) (m n : ℕ) (u v : List ℕ → List ℕ) → IsKnown p → IsKnown q → values_at_eof q (λ xs. (n + length xs) % 2 ^ 64 ∷ v xs) ≡ values_at_eof p (λ xs. (m + length xs) % 2 ^ 64 ∷ u xs)
-    → (n + length (remaining_as (λ all. all) q)) % 2 ^ 64 ≡ (m + length (remaining_as (λ all. all) p)) % 2 ^ 64
-end_of None q m n u v k l e = absurd k
-end_of (Some all) None m n u v k l e = absurd l
-end_of (Some all) (Some rest) m n u v k l e =
-    let o : (n + length (rest ++ [])) % 2 ^ 64 ∷ v (rest ++ []) ≡ (m + length (all ++ [])) % 2 ^ 64 ∷ u (all ++ []) = ap (λ (h : List ℕ → List ℕ). h []) e in
-    let i : (n + length (rest ++ [])) % 2 ^ 64 ≡ (m + length (all ++ [])) % 2 ^ 64 = cc in
-    rw (append-nil, append-nil) at i
+end_of : (p q : Option (List ℕ)) (f g : List ℕ → ℕ) (u v : List ℕ → List ℕ) → IsKnown p → IsKnown q → values_at_eof q (λ xs. g xs ∷ v xs) ≡ values_at_eof p (λ xs. f xs ∷ u xs) → g (remaining_as (λ all. all) q) ≡ f (remaining_as (λ all. all) p)
+end_of None q f g u v k l e = absurd k
+end_of (Some all) None f g u v k l e = absurd l
+end_of (Some all) (Some rest) f g u v k l e =
+    let o : g (rest ++ []) ∷ v (rest ++ []) ≡ f (all ++ []) ∷ u (all ++ []) = ap (λ (h : List ℕ → List ℕ). h []) e in
+    let i : g (rest ++ []) ≡ f (all ++ []) = cc in
+    sym (ap g (append-nil rest)) ∙ i ∙ ap f (append-nil all)
+
+-- a position and a byte as one number
+both_of : (a b c d : ℕ) → a % 2 ^ 64 + 2 ^ 64 * b ≡ c % 2 ^ 64 + 2 ^ 64 * d → (a % 2 ^ 64 ≡ c % 2 ^ 64) × (b ≡ d)
+both_of a b c d e = (omega (arith, e), omega (arith, e))
 
 -- after these bytes
 after_bytes : (m n x y z : ℕ) → (n + y) % 2 ^ 64 ≡ (m + x) % 2 ^ 64 → x ≡ z + y → n % 2 ^ 64 ≡ (m + z) % 2 ^ 64
 after_bytes m n x y z e f = omega arith
 
 module _ {R : Type 0} (source : R → Source ℕ) (x y : RunningReader R BytesRead) (k : RemainingIsKnown (counted_bytes source x)) (l : RemainingIsKnown (counted_bytes source y)) (values : final_values (counted_bytes source y) ≡ final_values (counted_bytes source x)) where
-  pub position_modulo : (front : List ℕ) → (counted_bytes source x).remaining ≡ front ++ (counted_bytes source y).remaining → position_of y % 2 ^ 64 ≡ (position_of x + length front) % 2 ^ 64
+  -- the position, and the last byte
+  pub read_after : ((position_of y + length (counted_bytes source y).remaining) % 2 ^ 64 ≡ (position_of x + length (counted_bytes source x).remaining) % 2 ^ 64)
+      × (last_of (last_read y) (counted_bytes source y).remaining ≡ last_of (last_read x) (counted_bytes source x).remaining)
   unfolding bytes_in
-  position_modulo front e =
+  read_after =
       let a = source (running_inner x) in
       let b = source (running_inner y) in
-      let i = end_of a.remaining b.remaining (position_of x) (position_of y) a.values b.values k l values in
-      let rest : List ℕ = remaining_as (λ all. all) b.remaining in
-      let f : length (remaining_as (λ all. all) a.remaining) ≡ length front + length rest = ap length e ∙ length-append front rest in
-      after_bytes (position_of x) (position_of y) _ (length rest) (length front) i f
+      both_of _ _ _ _ (end_of a.remaining b.remaining (update_position (running_value x)) (update_position (running_value y)) a.values b.values k l values)
+
+  pub position_modulo : (front : List ℕ) → (counted_bytes source x).remaining ≡ front ++ (counted_bytes source y).remaining → position_of y % 2 ^ 64 ≡ (position_of x + length front) % 2 ^ 64
+  position_modulo front e =
+      let rest : List ℕ = (counted_bytes source y).remaining in
+      let f : length (counted_bytes source x).remaining ≡ length front + length rest = ap length e ∙ length-append front rest in
+      after_bytes (position_of x) (position_of y) _ (length rest) (length front) read_after.0 f
 
   pub position_after : position_of y < 2 ^ 64 → (front : List ℕ) → (counted_bytes source x).remaining ≡ front ++ (counted_bytes source y).remaining → position_of y ≡ (position_of x + length front) % 2 ^ 64
   position_after small front e = let p = position_modulo front e in omega (arith, p)
@@ -164,7 +172,7 @@ none_so_far computes_md5 stream info start more a walk begins none = record {
 }
 
 -- an Err that is neither
-kept_err : {P : Type 0} (e : Error) → is_io e ≡ false → is_out_of_memory e ≡ false → IfConsumed (Err e) P → P
+pub kept_err : {P : Type 0} (e : Error) → is_io e ≡ false → is_out_of_memory e ≡ false → IfConsumed (Err e) P → P
 kept_err (IoError cause) io memory h = absurd cc
 kept_err (FormatError text) io memory h = h
 kept_err (Unsupported text) io memory h = h
@@ -192,11 +200,11 @@ Moves b c byte end = RemainingIsKnown b → RemainingIsKnown c → final_values 
 -- ---- one part more
 
 -- the scan after one part more
-scan_with : (info : Streaminfo) (found : List FoundPart) (here : FoundPart) (scan : Scan) (places : List Place) → scan_parts info (record { scan = begun_scan; places = [] }) found ≡ record { scan = scan; places = places } → scan_parts info (record { scan = begun_scan; places = [] }) (found ++ here ∷ []) ≡ scan_more info (record { scan = scan; places = places }) here
+pub scan_with : (info : Streaminfo) (found : List FoundPart) (here : FoundPart) (scan : Scan) (places : List Place) → scan_parts info (record { scan = begun_scan; places = [] }) found ≡ record { scan = scan; places = places } → scan_parts info (record { scan = begun_scan; places = [] }) (found ++ here ∷ []) ≡ scan_more info (record { scan = scan; places = places }) here
 scan_with info found here scan places e = scan_push info (record { scan = begun_scan; places = [] }) found here ∙ ap (λ (z : Scans). scan_more info z here) e
 
 -- without a place
-scan_fault : (info : Streaminfo) (found : List FoundPart) (byte : ℕ) (fault : FrameError) (scan new : Scan) (places : List Place) → scan_parts info (record { scan = begun_scan; places = [] }) found ≡ record { scan = scan; places = places } → new ≡ damaged byte (FaultDamage fault) scan
+pub scan_fault : (info : Streaminfo) (found : List FoundPart) (byte : ℕ) (fault : FrameError) (scan new : Scan) (places : List Place) → scan_parts info (record { scan = begun_scan; places = [] }) found ≡ record { scan = scan; places = places } → new ≡ damaged byte (FaultDamage fault) scan
     → scan_parts info (record { scan = begun_scan; places = [] }) (found ++ record { start = byte; what = Err fault } ∷ []) ≡ record { scan = new; places = places }
 scan_fault info found byte fault scan new places e is =
     scan_with info found (record { start = byte; what = Err fault }) scan places e
@@ -223,7 +231,7 @@ pub end_few : {A : Type 0} {end more : ℕ} {old new : Walk A} → EndsWalk end 
 end_few {A = A} {more = more} ends few = subst (λ (z : KeptPlaces A). length z.places.more.items ≤ more) (sym ends.places_are) few
 
 -- at the end all bytes were consumed
-eof_reached : {stream : Option StreamFormat} {r : FrameAnswer} {a b : State ℕ} → r ≡ Ok None → ReadsFrame stream r a b → ReachedEof 2 a b
+pub eof_reached : {stream : Option StreamFormat} {r : FrameAnswer} {a b : State ℕ} → r ≡ Ok None → ReadsFrame stream r a b → ReachedEof 2 a b
 eof_reached {stream = stream} {a = a} {b = b} e h = subst (λ (z : FrameAnswer). GivesOrEofOrOutOfMemory 2 block_view z (frame_bytes_at stream) a b) e h.gives
 
 pub at_eof : {R : Type 0} {stream : Option StreamFormat} {r : FrameAnswer} (source : R → Source ℕ) (x y z : RunningReader R BytesRead) → r ≡ Ok None → ReadsFrame stream r (counted_bytes source y) (counted_bytes source z) → RemainingIsKnown (counted_bytes source x) → RemainingIsKnown (counted_bytes source y) → final_values (counted_bytes source y) ≡ final_values (counted_bytes source x) → position_of z < 2 ^ 64
@@ -232,6 +240,14 @@ at_eof source x y z e h known after values small =
     let k = (eof_reached e h).known after in
     position_after source x z known k.known (k.values ∙ values) small (counted_bytes source x).remaining (sym (append-nil (counted_bytes source x).remaining) ∙ ap (λ (m : List ℕ). (counted_bytes source x).remaining ++ m) (sym k.is.1))
 
+-- what a fault consumed
+pub fault_consumed : {stream : Option StreamFormat} {b : State ℕ} (error : Error) (c : State ℕ) → BlockIsRead stream (Err error) b c → is_io error ≡ false → is_out_of_memory error ≡ false → RemainingIsKnown b → (f : Fault) × IsFault f error × Consumed b c (FrameBytesFault stream f)
+fault_consumed error c read io memory k = elim read.fault [
+  | inl m ↦ absurd (let z : true ≡ false = subst (λ (q : Error). is_out_of_memory q ≡ false) m memory in cc)
+  | inr (inl i) ↦ absurd (let z : true ≡ false = sym i ∙ io in cc)
+  | inr (inr f) ↦ f k
+]
+
 module _ {A : Type 0} {computes_md5 : Bool} {stream : Option StreamFormat} {info : Streaminfo} {start : ℕ} {a b : State ℕ} {count : ℕ} {walk : Walk A} (h : WalkedSoFar computes_md5 stream info start a b count walk) where
   with_frame_or_fault : (part : FrameOrFault) (c : State ℕ) → Consumed b c (FrameOrFaultBytes stream part) → (k : RemainingIsKnown a) → (RemainingIsKnown c) × FramesAndFaults stream a.remaining ((h.is k).parts ++ part ∷ []) c.remaining
   with_frame_or_fault part c consumed k =
@@ -239,7 +255,7 @@ module _ {A : Type 0} {computes_md5 : Bool} {stream : Option StreamFormat} {info
       (w.0, parts_push stream (h.is k).parts part a.remaining b.remaining w.1.0 c.remaining (h.is k).parts_are w.1.1 w.1.2)
 
   -- where the next part begins
-  part_at : (k : RemainingIsKnown a) → (front : List ℕ) × (a.remaining ≡ front ++ b.remaining) × (start + length a.remaining ≡ (start + length front) + length b.remaining)
+  pub part_at : (k : RemainingIsKnown a) → (front : List ℕ) × (a.remaining ≡ front ++ b.remaining) × (start + length a.remaining ≡ (start + length front) + length b.remaining)
   part_at k =
       let p = h.is k in
       let q = parts_front stream p.parts a.remaining b.remaining p.parts_are in
@@ -282,19 +298,19 @@ module _ {A : Type 0} {computes_md5 : Bool} {stream : Option StreamFormat} {info
 
   -- ---- one fault more
 
-  fault_consumed : (error : Error) (c : State ℕ) → BlockIsRead stream (Err error) b c → is_io error ≡ false → is_out_of_memory error ≡ false → RemainingIsKnown b → (f : Fault) × IsFault f error × Consumed b c (FrameBytesFault stream f)
-  fault_consumed error c read io memory k = elim read.fault [
-    | inl m ↦ absurd (let z : true ≡ false = subst (λ (q : Error). is_out_of_memory q ≡ false) m memory in cc)
-    | inr (inl i) ↦ absurd (let z : true ≡ false = sym i ∙ io in cc)
-    | inr (inr f) ↦ f k
+  -- a read of the source failed, or the frame isn't whole
+  pub failed_from : (fault : FrameError) (c : State ℕ) → BlockIsRead stream (Err fault.error) b c → IsIo fault.error → RemainingIsKnown b → IsNotWhole stream b.remaining ⊎ ReadFailedIn a c
+  failed_from fault c read io known = elim (read.io io known) [
+    | inl n ↦ inl n
+    | inr f ↦ inr (elim f [ inl n ↦ inl (λ e. n (e ∙ sym h.errors)) | inr n ↦ inr (λ e. n.0 (e ∙ sym h.empty_reads), n.1) ])
   ]
 
   -- what is counted can be
-  fit_now : (k : RemainingIsKnown a) → count + 1 < 2 ^ 64 → CanBeCounted (h.is k).parts
+  pub fit_now : (k : RemainingIsKnown a) → count + 1 < 2 ^ 64 → CanBeCounted (h.is k).parts
   fit_now k bound = let p = h.is k in let fit = p.samples_fit in let same = p.samples in let all = p.count_is in (omega (arith, fit, same), omega (arith, all, bound))
 
   -- the end
-  pub eof_found : {more : Walk A} (end : ℕ) (c : State ℕ) → count + 1 < 2 ^ 64 → BlockIsRead stream (Ok None) b c → (RemainingIsKnown a → end ≡ (start + length a.remaining) % 2 ^ 64) → EndsWalk end walk more → WalksToEnd computes_md5 stream info start a c more
+  unfoldable pub eof_found : {more : Walk A} (end : ℕ) (c : State ℕ) → count + 1 < 2 ^ 64 → BlockIsRead stream (Ok None) b c → (RemainingIsKnown a → end ≡ (start + length a.remaining) % 2 ^ 64) → EndsWalk end walk more → WalksToEnd computes_md5 stream info start a c more
   eof_found {more = more} end c bound read at_end ends k counts counted =
       let p = h.is k in
       let q = part_at k in
@@ -381,14 +397,11 @@ module _ {A : Type 0} {computes_md5 : Bool} {stream : Option StreamFormat} {info
         }
 
     -- a frame that isn't whole is the last one
-    pub cut_found : {more : Walk A} (fault : FrameError) (c : State ℕ) → count + 1 < 2 ^ 64 → BlockIsRead stream (Err fault.error) b c → (RemainingIsKnown b → IsTrue fault.is_32_bit ↔ Is32BitFault b.remaining fault.error) → IsIo fault.error → AddsFault fault byte end walk more → WalksToEnd computes_md5 stream info start a c more
+    unfoldable pub cut_found : {more : Walk A} (fault : FrameError) (c : State ℕ) → count + 1 < 2 ^ 64 → BlockIsRead stream (Err fault.error) b c → (RemainingIsKnown b → IsTrue fault.is_32_bit ↔ Is32BitFault b.remaining fault.error) → IsIo fault.error → AddsFault fault byte end walk more → WalksToEnd computes_md5 stream info start a c more
     cut_found {more = more} fault c bound read is_32_bit io adds k counts counted =
         let p = h.is k in
         let q = part_at k in
-        let why : IsNotWhole stream b.remaining ⊎ ReadFailedIn a c = elim (read.io io (h.known k)) [
-          | inl n ↦ inl n
-          | inr f ↦ inr (elim f [ inl n ↦ inl (λ e. n (e ∙ sym h.errors)) | inr n ↦ inr (λ e. n.0 (e ∙ sym h.empty_reads), n.1) ])
-        ] in
+        let why = failed_from fault c read io (h.known k) in
         let here : FoundPart = record { start = byte; what = Err fault } in
         let scan = scan_fault info p.found byte fault walk.scan more.scan p.places p.scan adds.scan_is in (
           record {

@@ -4,6 +4,7 @@ pub mod PartFaults
 pub mod Places
 pub mod RightStream
 pub mod StreamHead
+pub mod Trailing
 pub mod VerifiedParts
 pub mod Verify
 pub mod Walk

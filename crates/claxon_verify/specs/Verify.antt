@@ -8,6 +8,7 @@ use Rattle.std.specs.Prelude.{
   ◌<◌,
   ◌≤◌,
   ◌+◌,
+  ◌*◌,
   ◌%◌,
   ◌^◌,
   ℕ,
@@ -332,9 +333,15 @@ IsTooMany _ = ⊥
 
 -- ---- a reader that counts bytes
 
--- the position after more bytes
+-- the last of these bytes, or the other one if there is none
+abbrev pub last_of : ℕ → List ℕ → ℕ
+last_of other [] = other
+last_of other (byte ∷ bytes) = last_of byte bytes
+
+-- the position after more bytes, and the last byte, as one number
 abbrev pub update_position : BytesRead → List ℕ → ℕ
-update_position position more = (position.bytes + length more) % 2 ^ 64
+update_position position more =
+    (position.bytes + length more) % 2 ^ 64 + 2 ^ 64 * last_of position.last more
 
 -- the bytes of such a reader
 abbrev pub counted_bytes : {R : Type 0} → (R → Source ℕ) → RunningReader R BytesRead → State ℕ
@@ -343,6 +350,10 @@ counted_bytes source input = bytes_in (running_source source update_position) in
 -- how many were read
 abbrev pub position_of : {R : Type 0} → RunningReader R BytesRead → ℕ
 position_of input = (running_value input).bytes
+
+-- the last of them
+abbrev pub last_read : {R : Type 0} → RunningReader R BytesRead → ℕ
+last_read input = (running_value input).last
 
 -- ---- what was counted
 

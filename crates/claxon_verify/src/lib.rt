@@ -10,6 +10,7 @@ ghost use Rattle.claxon_command_line.specs.Progress.{StaysQuiet};
 ghost use Rattle.claxon_verify.specs.Kept.{AreKept, Keeps};
 ghost use Rattle.claxon_verify.specs.Notes.{NotesAreExact, WalkIsNoted};
 ghost use Rattle.claxon_verify.specs.Places.{places_at};
+ghost use Rattle.claxon_verify.specs.Trailing.{TrailingOf, VerifyTrailingIsTold, WalksToTail};
 ghost use Rattle.claxon_verify.specs.Verify.{
   KeepsAtMost,
   NothingIsWrong,
@@ -25,6 +26,7 @@ ghost use Rattle.claxon_verify.specs.Verify.{
   VerifyOutOfMemoryAfterHeader,
   VerifyPromises,
   counted_bytes,
+  last_of,
   position_of,
   update_position,
 };
@@ -86,8 +88,18 @@ impl Running for BytesRead {
     fn after(self, bytes: &[u8]) -> BytesRead {
         BytesRead {
             bytes: self.bytes.wrapping_add(bytes.len() as u64),
-            last: bytes.last().copied().unwrap_or(self.last),
+            last: last_or(bytes, self.last),
         }
+    }
+}
+
+// The last byte, or the other one if there is none.
+fn last_or(bytes: &[u8], other: u8) -> u8
+    ensures { result ≡ last_of other bytes.now }
+{
+    match bytes {
+        [.., last] => *last,
+        _ => other,
     }
 }
 
@@ -118,6 +130,8 @@ pub fn verify<R: ReadBytes, A: Allocator + Copy, E: Write>(
         (bytes_in R.source input.new) }
     ensures notes_are_exact { NotesAreExact (bytes_in R.source input.old) result
         (bytes_in R.source input.new) }
+    ensures trailing_is_told { VerifyTrailingIsTold computes_md5 (bytes_in R.source input.old)
+        result (bytes_in R.source input.new) }
     ensures keeps_at_most { KeepsAtMost more result }
     ensures fault_is_sound { VerifyFaultIsSound (bytes_in R.source input.old) result
         (bytes_in R.source input.new) }
@@ -144,6 +158,8 @@ fn verify_exact<R: ReadBytes, A: Allocator + Copy, E: Write>(
         (bytes_in R.source input.new) }
     ensures notes_are_exact { NotesAreExact (bytes_in R.source input.old) result
         (bytes_in R.source input.new) }
+    ensures trailing_is_told { VerifyTrailingIsTold computes_md5 (bytes_in R.source input.old)
+        result (bytes_in R.source input.new) }
     ensures keeps_at_most { KeepsAtMost more result }
     ensures is_quiet { VerifyIsQuiet result progress.old progress.new }
 {
@@ -166,6 +182,8 @@ fn verify_counted<R: ReadBytes, A: Allocator + Copy, E: Write>(
         result (counted_bytes R.source input.new) }
     ensures notes_are_exact { NotesAreExact (counted_bytes R.source input.old) result
         (counted_bytes R.source input.new) }
+    ensures trailing_is_told { VerifyTrailingIsTold computes_md5 (counted_bytes R.source input.old)
+        result (counted_bytes R.source input.new) }
     ensures keeps_at_most { KeepsAtMost more result }
     ensures is_quiet { VerifyIsQuiet result progress.old progress.new }
     ensures loans { (counted_bytes R.source input.new).source.loans
@@ -196,6 +214,7 @@ fn report_of<A: Allocator>(
     ensures sizes { result.found.notes.changed_block_size ≡ walk.sizes.changed }
     ensures notes { result.found.notes
         ≡ (record walk.notes { changed_block_size = walk.sizes.changed }) }
+    ensures trailing { TrailingOf info.samples walk result.trailing }
     ensures md5_is_judged { Md5IsJudged (info_view info) walk.md5 result.md5 }
     ensures md5_is_shown { Md5IsShown walk.md5 result.computed_md5 }
     ensures is_right { IsTrue result.is_right ↔ ((unsupported ≡ None)
@@ -264,6 +283,9 @@ fn walk_frames<R: ReadBytes, A: Allocator + Copy, E: Write>(
     requires min_bit_depth { 1 ≤ info.bits_per_sample }
     requires max_bit_depth { info.bits_per_sample ≤ 32 }
     ensures ok { IfOk result (WalksToEnd computes_md5 (Some (stream_with info)) (info_view info)
+        (position_of input.old)
+        (counted_bytes R.source input.old) (counted_bytes R.source input.new)) }
+    ensures tail { IfOk result (WalksToTail computes_md5 (Some (stream_with info)) (info_view info)
         (position_of input.old)
         (counted_bytes R.source input.old) (counted_bytes R.source input.new)) }
     ensures few { IfOk result (λ walk. (walk.places.more ≡ more)

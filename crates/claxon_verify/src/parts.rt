@@ -5,6 +5,12 @@ ghost use Rattle.claxon.specs.ShownHead.{HasBitDepth};
 ghost use Rattle.claxon.specs.State.{bytes_in};
 ghost use Rattle.claxon_command_line.specs.Progress.{StaysQuiet};
 ghost use Rattle.claxon_recovery.specs.Parts.{parts_info, parts_position};
+ghost use Rattle.claxon_verify.specs.Trailing.{
+  KeepsBytes,
+  KeepsPart,
+  PartsTrailingIsTold,
+  WalksPartsToTail,
+};
 ghost use Rattle.claxon_verify.specs.VerifiedParts.{
   AddsDamage,
   AddsPart,
@@ -30,7 +36,8 @@ ghost use Rattle.claxon_verify.specs.Verify.{
 use crate::due::FoundFrame;
 use crate::head::read_head;
 use crate::report::{Notes, Report};
-use crate::scan::Scanned;
+use crate::scan::{Scan, Scanned};
+use crate::trailing::BytesAfter;
 use crate::walk::{ByteRange, Walk, too_many, with_frame};
 use crate::{BytesRead, report_of};
 use claxon::input::ReadBytes;
@@ -62,6 +69,8 @@ pub fn verify_parts<R: ReadBytes, E: Write>(
     ensures is_sound { PartsReportIsSound computes_md5 (bytes_in R.source input.old) result }
     ensures fault_is_sound { PartsFaultIsSound (bytes_in R.source input.old) result
         (bytes_in R.source input.new) }
+    ensures trailing_is_told { PartsTrailingIsTold computes_md5 (bytes_in R.source input.old)
+        result }
     ensures keeps_at_most { KeepsAtMost more result }
     ensures is_quiet { VerifyIsQuiet result progress.old progress.new }
 {
@@ -83,6 +92,8 @@ fn verify_counted_parts<R: ReadBytes, E: Write>(
         (counted_bytes R.source input.new) }
     ensures loans { KeepsLoansOrHead (counted_bytes R.source input.old) result
         (counted_bytes R.source input.new) }
+    ensures trailing_is_told { PartsTrailingIsTold computes_md5 (counted_bytes R.source input.old)
+        result }
     ensures keeps_at_most { KeepsAtMost more result }
     ensures is_quiet { VerifyIsQuiet result progress.old progress.new }
 {
@@ -109,6 +120,7 @@ fn walk_parts<R: ReadBytes, E: Write>(
     requires at_start { parts_position parts.old ≡ start }
     ensures fits { start < 2 ^ 64 }
     ensures ok { IfOk result (WalksParts R.source computes_md5 info parts.old) }
+    ensures tail { IfOk result (WalksPartsToTail R.source computes_md5 info parts.old) }
     ensures few { IfOk result (λ walk. (walk.places.more ≡ more)
         × (length walk.places.places.more.items ≤ more)) }
     ensures err { IfErr result (StopsWalk R.source info parts.old parts.new) }
@@ -133,6 +145,7 @@ fn with_part(walk: Walk<Global>, info: StreamInfo, part: Part) -> Result<Walk<Gl
     requires has_bit_depth { HasBitDepth info }
     ensures adds_part { IfOk result (AddsPart (info_view info) part walk) }
     ensures err { IfErr result (ExceedsPart part walk) }
+    ensures keeps { IfOk result (λ more. KeepsPart more.scan.begun part walk.after more.after) }
 {
     match part {
         Part::Frame(there) => {
@@ -147,6 +160,8 @@ fn with_part(walk: Walk<Global>, info: StreamInfo, part: Part) -> Result<Walk<Gl
 fn with_damage(walk: Walk<Global>, info: &StreamInfo, damage: Damage) -> Walk<Global>
     ensures adds_damage { AddsDamage (info_view info.now) damage walk result }
     ensures notes { NotesDamage damage walk result }
+    ensures keeps { KeepsBytes result.scan.begun damage.first damage.are_zeros walk.after
+        result.after }
 {
     let is_left = is_byte_left(&damage);
     let Damage {
@@ -164,7 +179,6 @@ fn with_damage(walk: Walk<Global>, info: &StreamInfo, damage: Damage) -> Walk<Gl
         after,
         ..
     } = walk;
-    let after = after.with_bytes(first, are_zeros);
     let notes = Notes {
         has_byte_left: is_left && scan.begun.is_none(),
         has_unsearched: or_unsearched(notes.has_unsearched, unsearched),
@@ -172,22 +186,32 @@ fn with_damage(walk: Walk<Global>, info: &StreamInfo, damage: Damage) -> Walk<Gl
     };
     if is_left {
         return Walk {
+            after: after_bytes(after, &scan, first, are_zeros),
             scan,
             places,
             notes,
-            after,
             end,
             ..walk
         };
     }
     let Scanned { scan, place } = scan.part(info, start, why_none(cause, first));
     Walk {
+        after: after_bytes(after, &scan, first, are_zeros),
         scan,
         places: places.with(place),
         notes,
-        after,
         end,
         ..walk
+    }
+}
+
+// What is kept of the bytes after damage: they belong to the place that goes on, if one does.
+fn after_bytes(after: BytesAfter, scan: &Scan, first: FirstBytes, are_zeros: bool) -> BytesAfter
+    ensures keeps { KeepsBytes scan.now.begun first are_zeros after result }
+{
+    match &scan.begun {
+        Some(_) => after.with_bytes(first, are_zeros),
+        None => BytesAfter::new(),
     }
 }
 

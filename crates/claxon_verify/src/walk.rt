@@ -1,5 +1,5 @@
 //! What is found in a stream, frame by frame.
-ghost use Rattle.std.specs.Prelude.{◌≡◌, ◌≤◌, ◌+◌, ◌^◌, ◌<◌, ◌↔◌, ◌⊎◌, IfErr, IfOk, IsTrue, false};
+ghost use Rattle.std.specs.Prelude.{◌≡◌, ◌≤◌, ◌+◌, ◌^◌, ◌<◌, ◌↔◌, ◌⊎◌, IfErr, IfOk, IsTrue, [], false};
 ghost use Rattle.claxon.specs.Error.{is_out_of_memory};
 ghost use Rattle.claxon.specs.MetadataBlock.{info_view};
 ghost use Rattle.claxon_verify.specs.Notes.{
@@ -10,6 +10,7 @@ ghost use Rattle.claxon_verify.specs.Notes.{
   NothingNoted,
   is_other_frame_size,
 };
+ghost use Rattle.claxon_verify.specs.Trailing.{IsOfTail, KeepsFault, KeepsFrame, KeepsLast, TrailingOf};
 ghost use Rattle.claxon_verify.specs.Verify.{IsTooMany};
 ghost use Rattle.claxon_verify.specs.Walk.{
   AddsFault,
@@ -70,6 +71,7 @@ impl<A: Allocator> Walk<A> {
     pub fn new(alloc: A, computes_md5: bool, more: usize) -> Walk<A>
         ensures begins_walk { BeginsWalk computes_md5 more result }
         ensures nothing_noted { NothingNoted result }
+        ensures none_kept { IsOfTail [] result.after }
     {
         Walk {
             frames: 0,
@@ -111,6 +113,7 @@ pub(crate) fn with_frame<A: Allocator, B: Allocator>(
     ensures end { IfOk result (λ more. more.end ≡ span.end) }
     ensures notes { IfOk result (NotesFrame (info_view info) frame.now span.start span.end walk) }
     ensures err { IfErr result (ExceedsCount frame.now walk) }
+    ensures keeps { IfOk result (λ more. KeepsFrame more.scan.begun walk.after more.after) }
 {
     let duration = frame.block.duration();
     let frames = sum(walk.frames, 1)?;
@@ -155,7 +158,9 @@ fn found_frame<B: Allocator>(info: &StreamInfo, frame: &DecodedFrame<B>) -> Foun
 }
 
 // What is kept of the bytes after a frame: they belong to the place that goes on, if one does.
-fn after_frame(after: BytesAfter, scan: &Scan) -> BytesAfter {
+fn after_frame(after: BytesAfter, scan: &Scan) -> BytesAfter
+    ensures keeps { KeepsFrame scan.now.begun after result }
+{
     if scan.begun.is_some() {
         after.with_frame()
     } else {
@@ -221,6 +226,7 @@ pub(crate) fn with_fault<A: Allocator>(
     ensures notes { IfOk result (NotesFault fault.error walk) }
     ensures err { IfErr result
         (λ e. (fault.error ≡ Error.OutOfMemory) × (e ≡ Error.OutOfMemory)) }
+    ensures keeps { IfOk result (λ more. KeepsFault fault walk.after more.after) }
 {
     if matches!(&fault.error, Error::OutOfMemory) {
         return Err(Error::OutOfMemory);
@@ -232,7 +238,7 @@ pub(crate) fn with_fault<A: Allocator>(
         ..
     } = walk;
     Ok(Walk {
-        after: after.with(fault.first),
+        after: after_fault(after, &fault),
         end: span.end,
         notes: Notes {
             has_failed_read: or_failed_read(notes.has_failed_read, &fault.error),
@@ -250,12 +256,24 @@ fn or_failed_read(is_so: bool, error: &Error) -> bool
     is_so || is_failed_read(error)
 }
 
+// What is kept of the bytes after a fault: two, if it is that there is no sync code; else the first is 0xff, as of a frame.
+fn after_fault(after: BytesAfter, fault: &FrameError) -> BytesAfter
+    ensures keeps { KeepsFault fault.now after result }
+{
+    if is_no_sync_code(&fault.error) {
+        after.with_two(fault.first)
+    } else {
+        after.with_frame()
+    }
+}
+
 /// The walk at the end of the stream. The bytes that are left, fewer than two, are no frame. If there is one, it is `last`.
 pub(crate) fn at_end<A: Allocator>(walk: Walk<A>, span: ByteRange, last: u8) -> Walk<A>
     ensures start_fits { span.start < 2 ^ 64 }
     ensures end_fits { span.end < 2 ^ 64 }
     ensures ends_walk { EndsWalk span.end walk result }
     ensures notes { NotesEnd span.start span.end walk result }
+    ensures keeps { KeepsLast span last walk.after result.after }
 {
     let is_left = span.start != span.end;
     let Walk {
@@ -270,18 +288,27 @@ pub(crate) fn at_end<A: Allocator>(walk: Walk<A>, span: ByteRange, last: u8) -> 
             ..notes
         },
         end: span.end,
-        after: if is_left {
-            after.with_byte(last)
-        } else {
-            after
-        },
+        after: after_last(after, span, last),
         scan,
         ..walk
     }
 }
 
+// What is kept of the bytes after the last one, if there is one.
+fn after_last(after: BytesAfter, span: ByteRange, last: u8) -> BytesAfter
+    ensures keeps { KeepsLast span last after result }
+{
+    if span.start == span.end {
+        after
+    } else {
+        after.with_byte(last)
+    }
+}
+
 /// What stands after the last frame, if bytes do that are no frame.
-pub(crate) fn trailing<A: Allocator>(walk: &Walk<A>, info: &StreamInfo) -> Option<Trailing> {
+pub(crate) fn trailing<A: Allocator>(walk: &Walk<A>, info: &StreamInfo) -> Option<Trailing>
+    ensures trailing_is { TrailingOf info.now.samples walk.now result }
+{
     let Some(begun) = &walk.scan.begun else {
         return None;
     };

@@ -20,3 +20,6 @@ returns-clause-keeps_at_most g c = c.verify_exact.ensures.keeps_at_most
 
 pub returns-clause-notes_are_exact : goal.returns-clause-notes_are_exact
 returns-clause-notes_are_exact g c = c.verify_exact.ensures.notes_are_exact
+
+pub returns-clause-trailing_is_told : goal.returns-clause-trailing_is_told
+returns-clause-trailing_is_told g c = c.verify_exact.ensures.trailing_is_told

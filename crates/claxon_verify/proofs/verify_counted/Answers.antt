@@ -6,6 +6,7 @@ use Rattle.claxon_verify.proofs.Noted.{noted_stream}
 use Rattle.claxon_verify.proofs.Walking.{front_from_start}
 use Rattle.claxon_verify.proofs.Verified.{all_counted, counted_places, head_consumed, no_head, few_kept, not_counted}
 use Rattle.claxon_command_line.proofs.Showing.{started_quietly}
+use Rattle.claxon_verify.proofs.FramesTrailed.{frames_told}
 use Rattle.claxon_verify.proofs.verify_counted.Goals as goal
 
 pub returns-clause-promises : goal.returns-clause-promises
@@ -68,3 +69,14 @@ returns-in_err-walk-clause-promises g c =
     let h = head_consumed a m (c.in_ok-info.info, c.in_ok-info.unsupported) (position_of c.read_head.new.input) e.gives e.has_bounds (front_from_start source c.args.input.now c.read_head.new.input c.requires e.gives) in
     let p = err_from_is_err_and c.from_residual-in_err-walk.result c.from_residual-in_err-walk.ensures.1 in
     rw (p.1, p.2) (not_counted b h c.args.computes_md5 c.in_err-walk.field-0.0 c.in_err-walk.ensures.err)
+
+pub returns-clause-trailing_is_told : goal.returns-clause-trailing_is_told
+returns-clause-trailing_is_told g c =
+    let e = c.in_ok-info.ensures in
+    let source = g.R.ReadBytes.source in
+    let a = counted_bytes source c.args.input.now in
+    let m = counted_bytes source c.read_head.new.input in
+    let b = counted_bytes source c.walk_frames.new.input in
+    let h = head_consumed a m (c.in_ok-info.info, c.in_ok-info.unsupported) (position_of c.read_head.new.input) e.gives e.has_bounds (front_from_start source c.args.input.now c.read_head.new.input c.requires e.gives) in
+    let r = c.report_of.ensures in
+    frames_told b h c.args.computes_md5 c.in_ok-info.info c.in_ok-walk.walk c.report_of.result refl r.unsupported c.in_ok-walk.ensures.tail r.info r.frames r.samples r.kept r.sizes r.md5_is_judged r.md5_is_shown c.in_ok-info.unsupported r.unsupported r.is_right r.trailing

@@ -1,6 +1,7 @@
 use Rattle.std.proofs.Common.{rules}
 use Rattle.claxon_verify.proofs.Noted.{noted_through}
 use Rattle.claxon_verify.proofs.Verified.{places_through, promised_through, same_input}
+use Rattle.claxon_verify.proofs.FramesTrailed.{frames_through}
 use Rattle.claxon_verify.proofs.verify_exact.Goals as goal
 
 pub returns-clause-promises : goal.returns-clause-promises
@@ -25,4 +26,11 @@ returns-clause-notes_are_exact g c =
     let at = c.new-input.ensures.inner in
     let n = same_input g.R.ReadBytes.source _ c.new-input.result c.verify_counted.new.input at c.verify_counted.ensures.loans in
     let k = noted_through g.R.ReadBytes.source _ c.new-input.result c.verify_counted.new.input at c.verify_counted.result c.verify_counted.ensures.notes_are_exact in
+    search rules
+
+pub returns-clause-trailing_is_told : goal.returns-clause-trailing_is_told
+returns-clause-trailing_is_told g c =
+    let at = c.new-input.ensures.inner in
+    let n = same_input g.R.ReadBytes.source _ c.new-input.result c.verify_counted.new.input at c.verify_counted.ensures.loans in
+    let k = frames_through g.R.ReadBytes.source _ c.new-input.result c.verify_counted.new.input at c.args.computes_md5 c.verify_counted.result c.verify_counted.ensures.trailing_is_told in
     search rules

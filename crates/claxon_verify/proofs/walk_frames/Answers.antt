@@ -7,12 +7,14 @@ use Rattle.claxon_blocks.specs.Frames.{decoder_answer, frame_block}
 use Rattle.claxon_verify.specs.Verify.{counted_bytes}
 use Rattle.claxon_verify.specs.declared.BytesRead.{BytesRead}
 use Rattle.claxon_command_line.proofs.Showing.{shown_quietly, shown_total_same}
-use Rattle.claxon_verify.proofs.Walking.{Moves, at_eof, cut_found, cut_noted, eof_found, eof_noted, fault_added, frame_added, end_few, end_more, fault_few, frame_as, frame_exceeds, frame_few, none_few, none_so_far, same_more, position_after, position_modulo, read_as}
+use Rattle.claxon_verify.proofs.Walking.{Moves, at_eof, cut_found, cut_noted, eof_found, eof_noted, fault_added, frame_added, end_few, end_more, fault_few, frame_as, frame_exceeds, frame_few, none_few, none_so_far, same_more, position_after, position_modulo, read_as, failed_from}
+use Rattle.claxon.specs.MetadataBlock.{info_view}
+use Rattle.claxon_verify.proofs.FramesTrailed.{cut_tail, cut_to_tail, eof_tail, eof_to_tail, fault_tail, frame_tail, no_frames}
 use Rattle.claxon_verify.proofs.walk_frames.Goals.{in-Ok-Some+in_ok-walk-in-Ok-Some, in-Err+in_ok-walk-in-Err+else-is_last}
 use Rattle.claxon_verify.proofs.walk_frames.Goals as goal
 
 pub loop-init : goal.loop-init
-loop-init g c = record { so_far = none_so_far _ _ _ _ _ _ _ c.new-walk.ensures.begins_walk c.new-walk.ensures.nothing_noted; quiet = λ none. (refl, refl); total = refl; more = c.new-walk.ensures.begins_walk.more_is; few = none_few _ _ c.new-walk.ensures.begins_walk.none }
+loop-init g c = record { so_far = none_so_far _ _ _ _ _ _ _ c.new-walk.ensures.begins_walk c.new-walk.ensures.nothing_noted; quiet = λ none. (refl, refl); total = refl; more = c.new-walk.ensures.begins_walk.more_is; few = none_few _ _ c.new-walk.ensures.begins_walk.none; tail = no_frames g.R.ReadBytes.source c.args.input.now c.new-walk.result c.new-walk.ensures.begins_walk c.new-walk.ensures.none_kept }
 
 pub loop-preserved : goal.loop-preserved
 loop-preserved g c =
@@ -53,6 +55,17 @@ loop-preserved g c =
       few = elim c.match-read.branch [
         | in-Ok-Some+in_ok-walk-in-Ok-Some w ↦ rw w.walk-is (frame_few w.in_ok-walk-in-Ok-Some.ensures.ok c.loop.invariant.more c.loop.invariant.few)
         | in-Err+in_ok-walk-in-Err+else-is_last w ↦ rw w.walk-is (fault_few w.in_ok-walk-in-Err.ensures.ok.1 c.loop.invariant.few)
+      ];
+      tail = elim c.match-read.branch [
+        | in-Ok-Some+in_ok-walk-in-Ok-Some w ↦ (
+            let found = w.in-Ok-Some.is ∙ ap (λ (z : Option (DecodedFrame _)). Ok z) w.in-Ok-Some.field-0-is in
+            let is = ap (decoder_answer frame_block) found in
+            rw w.walk-is (frame_tail g.R.ReadBytes.source c.args.input.now c.loop.input c.read_frame-read.new.input c.loop.walk _ c.loop.invariant.tail h.known (info_view c.args.info) (Some (stream_with c.args.info)) _ byte w.with_frame.ensures.fits w.in-Ok-Some.frame (read_as {b = b} is read) (frame_as (Some (stream_with c.args.info)) a b found c.read_frame-read.ensures.has_header) w.in_ok-walk-in-Ok-Some.ensures.ok w.in_ok-walk-in-Ok-Some.ensures.keeps)
+            )
+        | in-Err+in_ok-walk-in-Err+else-is_last w ↦ (
+            let k = w.in_ok-walk-in-Err.ensures.ok in
+            rw w.walk-is (fault_tail g.R.ReadBytes.source c.args.input.now c.loop.input c.read_frame-read.new.input c.loop.walk _ c.loop.invariant.tail h.known (info_view c.args.info) (Some (stream_with c.args.info)) _ byte w.with_fault.ensures.fits w.in-Err.fault (read_as {b = b} (ap (decoder_answer frame_block) w.in-Err.is) read) w.in-Err.ensures.keeps_first_bytes (sym w.is_io_error-is_last.ensures ∙ w.if-is_last.false) k.0 k.1 w.in_ok-walk-in-Err.ensures.keeps)
+            )
       ];
     }
 
@@ -113,3 +126,33 @@ returns-then-is_last-clause-notes g c =
     let small = rw byte at c.with_fault.ensures.fits in
     cut_noted h (λ known front e. byte ∙ position_after g.R.ReadBytes.source c.args.input.now c.loop.input known (h.known known) (h.values known) small front e) c.in-Err.fault b bound (read_as {b = b} (ap (decoder_answer frame_block) c.in-Err.is) c.read_frame-read.ensures.is_read) c.in-Err.ensures.tells_of_32_bits
     (sym c.is_io_error-is_last.ensures ∙ c.if-is_last.true) c.in_ok-walk-in-Err.ensures.ok.1 c.in_ok-walk-in-Err.ensures.notes
+
+pub returns-in-Ok-None-clause-tail : goal.returns-in-Ok-None-clause-tail
+returns-in-Ok-None-clause-tail g c =
+    let h = c.loop.invariant.so_far in
+    let source = g.R.ReadBytes.source in
+    let b = counted_bytes source c.read_frame-read.new.input in
+    let bound : c.loop.counter + 1 < 2 ^ 64 = omega arith in
+    let is = ap (decoder_answer frame_block) (c.in-Ok-None.is ∙ ap (λ (z : Option (DecodedFrame _)). Ok z) c.in-Ok-None.field-0-is) in
+    let start = ap (λ (p : BytesRead). p.bytes) c.value-start.ensures in
+    let end = ap (λ (p : BytesRead). p.bytes) c.value-end.ensures in
+    let last = ap (λ (p : BytesRead). p.last) c.value-last.ensures in
+    let small = rw end at c.at_end.ensures.end_fits in
+    let read = read_as {b = b} is c.read_frame-read.ensures.is_read in
+    eof_to_tail h _ b bound read (λ known. end ∙ at_eof source c.args.input.now c.loop.input c.read_frame-read.new.input is c.read_frame-read.ensures.is_read known (h.known known) (h.values known) small) c.at_end.ensures.ends_walk
+    (eof_tail source c.args.input.now c.loop.input c.read_frame-read.new.input c.loop.walk _ c.loop.invariant.tail h.known _ _ is c.read_frame-read.ensures.is_read (read.eof refl) start end c.at_end.ensures.start_fits c.at_end.ensures.end_fits last c.at_end.ensures.ends_walk c.at_end.ensures.keeps)
+
+pub returns-then-is_last-clause-tail : goal.returns-then-is_last-clause-tail
+returns-then-is_last-clause-tail g c =
+    let h = c.loop.invariant.so_far in
+    let source = g.R.ReadBytes.source in
+    let b = counted_bytes source c.read_frame-read.new.input in
+    let bound : c.loop.counter + 1 < 2 ^ 64 = omega arith in
+    let byte = ap (λ (p : BytesRead). p.bytes) c.value-start.ensures in
+    let small = rw byte at c.with_fault.ensures.fits in
+    let fault = c.in-Err.fault in
+    let read = read_as {b = b} (ap (decoder_answer frame_block) c.in-Err.is) c.read_frame-read.ensures.is_read in
+    let io = sym c.is_io_error-is_last.ensures ∙ c.if-is_last.true in
+    let ok = c.in_ok-walk-in-Err.ensures.ok in
+    cut_to_tail h (λ known front e. byte ∙ position_after source c.args.input.now c.loop.input known (h.known known) (h.values known) small front e) fault b bound read c.in-Err.ensures.tells_of_32_bits io ok.1
+    (cut_tail source c.args.input.now c.loop.input c.read_frame-read.new.input c.loop.walk _ c.loop.invariant.tail h.known (info_view c.args.info) (Some (stream_with c.args.info)) _ byte c.with_fault.ensures.fits fault io (failed_from h fault b read io) ok.1 c.in_ok-walk-in-Err.ensures.keeps)

@@ -3,6 +3,7 @@ use Rattle.claxon.specs.FrameReader.{stream_with}
 use Rattle.claxon.specs.MetadataBlock.{info_view}
 use Rattle.claxon_command_line.specs.Progress.{StaysQuiet, shown_total}
 use Rattle.claxon_verify.specs.Verify.{counted_bytes, position_of}
+use Rattle.claxon_verify.proofs.FramesTrailed.{FramesTail}
 use Rattle.claxon_verify.proofs.Walking.{WalkedSoFar}
 use Rattle.claxon_verify.proofs.walk_frames.Given as goal
 
@@ -13,4 +14,5 @@ invariant-loop g l = record {
   total : shown_total l.progress ≡ shown_total l.fn.progress;
   more : l.walk.places.more ≡ l.more;
   few : length l.walk.places.places.more.items ≤ l.more;
+  tail : FramesTail g.R.ReadBytes.source l.fn.input l.input l.walk;
 }

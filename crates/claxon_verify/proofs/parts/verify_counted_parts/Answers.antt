@@ -6,6 +6,7 @@ use Rattle.claxon_verify.proofs.PartsStopped.{after_head, begins_with_head, head
 use Rattle.claxon_verify.proofs.PartsVerified.{CountsParts, counts_from, parts_verified}
 use Rattle.claxon_verify.proofs.Verified.{head_consumed}
 use Rattle.claxon_verify.proofs.Walking.{front_from_start}
+use Rattle.claxon_verify.proofs.PartsTrailed.{CountsToTail, tail_from, trailing_told}
 use Rattle.claxon_verify.proofs.parts.verify_counted_parts.Goals as goal
 
 pub returns-clause-is_sound : goal.returns-clause-is_sound
@@ -77,3 +78,20 @@ returns-in_err-walk-clause-loans g c =
     let h = head_consumed a m (c.in_ok-info.info, c.in_ok-info.unsupported) (position_of c.read_head.new.input) e.gives e.has_bounds (front_from_start source c.args.input.now c.read_head.new.input c.requires e.gives) in
     let p = err_from_is_err_and c.from_residual-in_err-walk.result c.from_residual-in_err-walk.ensures.1 in
     rw p.1 (inr (begins_with_head h))
+
+pub returns-clause-trailing_is_told : goal.returns-clause-trailing_is_told
+returns-clause-trailing_is_told g c =
+    let e = c.in_ok-info.ensures in
+    let source = g.R.ReadBytes.source in
+    let a = counted_bytes source c.args.input.now in
+    let m = counted_bytes source c.read_head.new.input in
+    let start = position_of c.read_head.new.input in
+    let h = head_consumed a m (c.in_ok-info.info, c.in_ok-info.unsupported) start e.gives e.has_bounds (front_from_start source c.args.input.now c.read_head.new.input c.requires e.gives) in
+    let r = c.report_of.ensures in
+    let info = c.in_ok-info.info in
+    let walk = c.in_ok-walk.walk in
+    let at : c.value-start.result.bytes ≡ start = ap (λ (p : BytesRead). p.bytes) c.value-start.ensures in
+    let from = tail_from source c.args.computes_md5 info c.value-start.result.bytes _ c.in_ok-parts.parts walk c.in_ok-parts.ensures.begins c.in_ok-walk.ensures.tail in
+    let walks = subst (λ (n : ℕ). CountsToTail c.args.computes_md5 info n m walk) at from in
+    let fits = c.walk_parts.ensures.fits in
+    trailing_told h c.args.computes_md5 info walk c.report_of.result refl r.unsupported (subst (λ (n : ℕ). n < 2 ^ 64) at fits) walks r.info r.frames r.samples r.kept r.sizes r.md5_is_judged r.md5_is_shown c.in_ok-info.unsupported r.unsupported r.is_right walk.sizes.changed r.notes r.trailing

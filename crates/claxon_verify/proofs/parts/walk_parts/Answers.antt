@@ -8,6 +8,7 @@ use Rattle.claxon_recovery.specs.declared.part.Part.{Part}
 use Rattle.claxon_verify.proofs.Walking.{none_few}
 use Rattle.claxon_verify.proofs.PartsStopped.{next_stops, part_exceeds}
 use Rattle.claxon_verify.proofs.PartsWalked.{none_found, part_few, part_more, walked}
+use Rattle.claxon_verify.proofs.PartsTrailed.{none_kept, tail_so_far, walked_to_tail}
 use Rattle.claxon_verify.proofs.parts.walk_parts.Goals as goal
 
 pub loop-init : goal.loop-init
@@ -18,6 +19,7 @@ loop-init g c = record {
   total = refl;
   more = c.new.ensures.begins_walk.more_is;
   few = none_few _ _ c.new.ensures.begins_walk.none;
+  tail = none_kept g.R.ReadBytes.source c.args.parts.now c.new.result c.args.start c.requires.at_start c.ranges.start.fits c.new.ensures.begins_walk.scan_is c.new.ensures.none_kept;
 }
 
 pub loop-preserved : goal.loop-preserved
@@ -39,6 +41,8 @@ loop-preserved g c =
       total = shown_total_same c.loop.progress c.show.new.self _ c.show.ensures.shows_percentage ∙ c.loop.invariant.total;
       more = few.0;
       few = few.1;
+      tail = tail_so_far c.loop.invariant.tail c.loop.invariant.so_far.info_is c.loop.invariant.so_far.known c.in-Some.part (λ k. subst (λ (z : Option Part). IsPart (parts_info mid) (parts_position mid) (unread source mid) (unread source new) z) is (there.0.is k))
+          (there.1 ∙ ap (λ (z : Option Part). after_part (parts_position mid) z) is) adds c.in_ok-walk.ensures.keeps;
     }
 
 pub returns-in_default-clause-ok : goal.returns-in_default-clause-ok
@@ -68,3 +72,13 @@ returns-in_err-walk-clause-err g c =
     (λ k. subst (λ (z : Option Part). IsPart (parts_info mid) (parts_position mid) (unread source mid) (unread source new) z) is (there.0.is k))
     (λ k value t rest code joined short. subst (λ (z : Option Part). IsFrameOf value z × (unread source new ≡ rest)) is (c.in_ok-part.ensures.frame_is_found k value t rest code joined short))
     (there.1 ∙ ap (λ (z : Option Part). after_part (parts_position mid) z) is) _ c.in_err-walk.ensures.err)
+
+pub returns-in_default-clause-tail : goal.returns-in_default-clause-tail
+returns-in_default-clause-tail g c =
+    let source = g.R.ReadBytes.source in
+    let mid = c.loop.parts in
+    let new = c.next_part.new.self in
+    let there = c.in_ok-part.ensures.part_is_there in
+    let at = c.requires.at_start in
+    let fits = c.ranges.start.fits in
+    walked_to_tail (omega (arith, at, fits)) c.loop.invariant.so_far (λ k. (subst (λ (z : Option Part). IsPart (parts_info mid) (parts_position mid) (unread source mid) (unread source new) z) c.in_default.is (there.0.is k)).0) c.loop.invariant.tail
