@@ -72,8 +72,8 @@ use Rattle.claxon_verify.specs.declared.report.Damage.TheVariants.{
 use Rattle.claxon_verify.specs.declared.report.Place.{Place}
 use Rattle.claxon_verify.specs.declared.report.Gap.{Gap}
 use Rattle.claxon_verify.specs.declared.report.Report.{Report}
-use Rattle.claxon_verify.specs.declared.report.UnsupportedBlock.{UnsupportedBlock}
-use Rattle.claxon_verify.specs.declared.report.UnsupportedBlock.TheVariants.{
+use Rattle.claxon_heads.specs.declared.head.UnsupportedBlock.{UnsupportedBlock}
+use Rattle.claxon_heads.specs.declared.head.UnsupportedBlock.TheVariants.{
   BytesLeft,
   FieldName,
   LargeApplication,

@@ -27,14 +27,15 @@ use Rattle.claxon_verify.specs.Places.{Scans, begun_or, begun_scan, places_at, s
 use Rattle.claxon_verify.specs.Trailing.{AreBytes, EndsWithTail, IsLast, IsOfFault, IsOfTail, KeepsFault, KeepsFrame, KeepsIfBegun, KeepsLast, TailOf, TrailingIs, TrailingOf, VerifyTrailingIsTold, WalksToTail, scan_of}
 use Rattle.claxon_blocks.specs.Md5Verdict.{Md5IsJudged, Md5IsShown}
 use Rattle.claxon_verify.specs.Kept.{AreKept, Keeps}
-use Rattle.claxon_verify.specs.StreamHead.{FoundHead}
-use Rattle.claxon_verify.specs.Verify.{Counted, Counts, Md5Is, NothingIsWrong, counted_bytes, frames_of, last_of, last_read, position_of, report_view, sum_of}
+use Rattle.claxon_heads.specs.StreamHead.{FoundHead}
+use Rattle.claxon_heads.specs.BytesRead.{counted_bytes, last_of, last_read, position_of}
+use Rattle.claxon_verify.specs.Verify.{Counted, Counts, Md5Is, NothingIsWrong, frames_of, report_view, sum_of}
 use Rattle.claxon_verify.specs.Walk.{AddsFault, AddsFrame, BeginsWalk, EndsWalk}
-use Rattle.claxon_verify.specs.declared.BytesRead.{BytesRead}
+use Rattle.claxon_heads.specs.declared.bytes_read.BytesRead.{BytesRead}
 use Rattle.claxon_verify.specs.declared.report.Damage.TheVariants.{Fault as FaultDamage}
 use Rattle.claxon_verify.specs.declared.report.Place.{Place}
 use Rattle.claxon_verify.specs.declared.report.Report.{Report}
-use Rattle.claxon_verify.specs.declared.report.UnsupportedBlock.{UnsupportedBlock}
+use Rattle.claxon_heads.specs.declared.head.UnsupportedBlock.{UnsupportedBlock}
 use Rattle.claxon_verify.specs.declared.scan.Begun.{Begun}
 use Rattle.claxon_verify.specs.declared.scan.Scan.{Scan}
 use Rattle.claxon_verify.specs.declared.walk.ByteRange.{ByteRange}
@@ -43,7 +44,8 @@ use Rattle.claxon_verify.proofs.SyncCodes.{fault_syncs, first_is_255, frame_sync
 use Rattle.claxon_verify.proofs.Trailed.{GoesOn, bytes_after, bytes_before, frame_goes_on, left_bytes, no_tail, part_goes_on, place_byte, tail_more, told}
 use Rattle.claxon_verify.proofs.PartsVerified.{right_report}
 use Rattle.claxon_verify.proofs.Verified.{HeadIsConsumed, counted_from, failed_since, head_code, judged_md5, restart, shown_md5}
-use Rattle.claxon_verify.proofs.Walking.{WalkedSoFar, cut_found, eof_found, eof_reached, fault_consumed, kept_err, position_modulo, read_after, scan_fault}
+use Rattle.claxon_heads.proofs.Positions.{position_modulo, read_after}
+use Rattle.claxon_verify.proofs.Walking.{WalkedSoFar, cut_found, eof_found, eof_reached, fault_consumed, kept_err, scan_fault}
 
 -- ---- one part more
 

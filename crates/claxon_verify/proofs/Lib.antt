@@ -24,16 +24,6 @@ pub mod PartsWalked
 pub mod PartsStopped
 -- A whole stream that is verified by its parts.
 pub mod PartsVerified
--- Faults for which a block is passed over are within its content.
-pub mod FaultLengths
--- A head of which blocks may be passed over, and its reader.
-pub mod FoundHeads
--- The head of a stream of which blocks may be passed over, in the steps of the code.
-pub mod StreamHeads
--- A head of which nothing is passed over is one of the format, and the other way round.
-pub mod SupportedHeads
--- Faults of blocks that are passed over, by their texts.
-pub mod UnsupportedFaults
 -- Bytes that have the same bits.
 pub mod SameBytes
 -- What is kept of bytes that are no frame.
@@ -44,8 +34,6 @@ pub mod SyncCodes
 pub mod Trailed
 -- What stands after the last frame of a stream that is verified by its parts.
 pub mod PartsTrailed
--- The last of some bytes.
-pub mod LastBytes
 -- The first bytes of a fault.
 pub mod FaultBytes
 -- What stands after the last frame of a stream that is verified frame by frame.

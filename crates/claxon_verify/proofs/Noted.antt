@@ -14,13 +14,14 @@ use Rattle.claxon.specs.Streaminfo.{Streaminfo}
 use Rattle.claxon.specs.RunningReader.{running_inner}
 use Rattle.claxon.specs.RunningReaders.{RunningReader}
 use Rattle.claxon_verify.specs.Notes.{NotesAre, NotesAreExact, WalkIsNoted}
-use Rattle.claxon_verify.specs.StreamHead.{FoundHead}
-use Rattle.claxon_verify.specs.Verify.{Counted, counted_bytes, report_view}
+use Rattle.claxon_heads.specs.StreamHead.{FoundHead}
+use Rattle.claxon_heads.specs.BytesRead.{counted_bytes}
+use Rattle.claxon_verify.specs.Verify.{Counted, report_view}
 use Rattle.claxon_verify.specs.Walk.{IsCounted}
 use Rattle.claxon_verify.specs.declared.report.BlockSizes.{BlockSizes}
 use Rattle.claxon_verify.specs.declared.report.Notes.{Notes}
 use Rattle.claxon_verify.specs.declared.report.Report.{Report}
-use Rattle.claxon_verify.specs.declared.BytesRead.{BytesRead}
+use Rattle.claxon_heads.specs.declared.bytes_read.BytesRead.{BytesRead}
 use Rattle.claxon_verify.specs.declared.walk.Walk.{Walk}
 use Rattle.claxon_verify.proofs.Verified.{HeadIsConsumed, counted_from, failed_since, head_code}
 

@@ -29,10 +29,11 @@ use Rattle.claxon_recovery.specs.declared.parts.Parts.{Parts}
 use Rattle.claxon_recovery.proofs.Reading.{fails_after}
 use Rattle.claxon_verify.specs.PartFaults.{AnsweredUpTo, BeginsWithHead, BeginsWithTooMany, ExceedsPart, HasTooManyParts, KeepsLoansOrHead, PartsFaultIsSound, StopsWalk}
 use Rattle.claxon_verify.specs.RightStream.{frame_duration}
-use Rattle.claxon_verify.specs.StreamHead.{FoundHead, FoundHeadAnswer, FoundHeadFault, HeadNeedsMemory, OutOfMemoryOnlyWhere, found_head_at, found_head_view}
+use Rattle.claxon_heads.specs.StreamHead.{FoundHead, FoundHeadAnswer, FoundHeadFault, HeadNeedsMemory, OutOfMemoryOnlyWhere, found_head_at, found_head_view}
 use Rattle.claxon_verify.specs.VerifiedParts.{part_frames}
-use Rattle.claxon_verify.specs.Verify.{IsTooMany, counted_bytes, update_position}
-use Rattle.claxon_verify.specs.declared.BytesRead.{BytesRead}
+use Rattle.claxon_heads.specs.BytesRead.{counted_bytes, update_position}
+use Rattle.claxon_verify.specs.Verify.{IsTooMany}
+use Rattle.claxon_heads.specs.declared.bytes_read.BytesRead.{BytesRead}
 use Rattle.claxon_verify.specs.declared.report.Report.{Report}
 use Rattle.claxon_verify.specs.declared.walk.Walk.{Walk}
 use Rattle.claxon_verify.proofs.PartsWalked.{PartsSoFar, answered, frames_append}

@@ -24,16 +24,17 @@ use Rattle.claxon_recovery.specs.declared.parts.Parts.{Parts}
 use Rattle.claxon_verify.specs.Kept.{AreKept, Keeps}
 use Rattle.claxon_verify.specs.Places.{Scans, begun_scan, places_at}
 use Rattle.claxon_verify.specs.RightStream.{bytes_of_frames}
-use Rattle.claxon_verify.specs.StreamHead.{FoundHead}
+use Rattle.claxon_heads.specs.StreamHead.{FoundHead}
 use Rattle.claxon_verify.specs.Trailing.{AreBytes, EndsWithTail, IsOfTail, KeepsIfBegun, KeepsPart, PartsTrailingIsTold, TailOf, TrailingIs, TrailingOf, WalksPartsToTail, scan_of}
-use Rattle.claxon_verify.specs.Verify.{Counts, NothingIsWrong, counted_bytes, report_view, update_position}
+use Rattle.claxon_heads.specs.BytesRead.{counted_bytes, update_position}
+use Rattle.claxon_verify.specs.Verify.{Counts, NothingIsWrong, report_view}
 use Rattle.claxon_verify.specs.VerifiedParts.{AddsDamage, AddsPart, NotesOfParts, PartsCounted, is_byte_left, part_frames}
 use Rattle.claxon_verify.specs.Walk.{IsCounted}
-use Rattle.claxon_verify.specs.declared.BytesRead.{BytesRead}
+use Rattle.claxon_heads.specs.declared.bytes_read.BytesRead.{BytesRead}
 use Rattle.claxon_verify.specs.declared.report.BlockSizes.{BlockSizes}
 use Rattle.claxon_verify.specs.declared.report.Place.{Place}
 use Rattle.claxon_verify.specs.declared.report.Report.{Report}
-use Rattle.claxon_verify.specs.declared.report.UnsupportedBlock.{UnsupportedBlock}
+use Rattle.claxon_heads.specs.declared.head.UnsupportedBlock.{UnsupportedBlock}
 use Rattle.claxon_verify.specs.declared.scan.Scan.{Scan}
 use Rattle.claxon_verify.specs.declared.walk.Walk.{Walk}
 use Rattle.claxon_verify.proofs.PartsVerified.{parts_verified}

@@ -21,16 +21,17 @@ use Rattle.claxon_recovery.specs.declared.parts.Parts.{Parts}
 use Rattle.claxon_verify.specs.Kept.{AreKept, Keeps}
 use Rattle.claxon_verify.specs.VerifiedParts.{NotesOfParts, PartsCounted, PartsReportIsSound, WalksParts, part_frames}
 use Rattle.claxon_verify.specs.Places.{places_at}
-use Rattle.claxon_verify.specs.StreamHead.{FoundHead}
+use Rattle.claxon_heads.specs.StreamHead.{FoundHead}
 use Rattle.claxon_verify.specs.RightStream.{bytes_of_frames}
-use Rattle.claxon_verify.specs.Verify.{Counts, IsRight, Md5Is, NothingIsWrong, counted_bytes, report_view, sum_of, update_position}
+use Rattle.claxon_heads.specs.BytesRead.{counted_bytes, update_position}
+use Rattle.claxon_verify.specs.Verify.{Counts, IsRight, Md5Is, NothingIsWrong, report_view, sum_of}
 use Rattle.claxon_verify.specs.Walk.{IsCounted}
 use Rattle.claxon_verify.specs.declared.report.BlockSizes.{BlockSizes}
 use Rattle.claxon_verify.specs.declared.report.Notes.{Notes}
 use Rattle.claxon_verify.specs.declared.report.Place.{Place}
 use Rattle.claxon_verify.specs.declared.report.Report.{Report}
-use Rattle.claxon_verify.specs.declared.report.UnsupportedBlock.{UnsupportedBlock}
-use Rattle.claxon_verify.specs.declared.BytesRead.{BytesRead}
+use Rattle.claxon_heads.specs.declared.head.UnsupportedBlock.{UnsupportedBlock}
+use Rattle.claxon_heads.specs.declared.bytes_read.BytesRead.{BytesRead}
 use Rattle.claxon_verify.specs.declared.walk.Walk.{Walk}
 use Rattle.claxon_verify.proofs.PartsNoted.{same_notes}
 use Rattle.claxon_verify.proofs.Verified.{HeadIsConsumed, head_code, judged_md5, shown_md5}

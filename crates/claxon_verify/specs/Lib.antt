@@ -3,7 +3,6 @@ pub mod Notes
 pub mod PartFaults
 pub mod Places
 pub mod RightStream
-pub mod StreamHead
 pub mod Trailing
 pub mod VerifiedParts
 pub mod Verify

@@ -28,7 +28,7 @@ use Rattle.claxon_recovery.specs.declared.part.Part.TheVariants.{
 }
 use Rattle.claxon_recovery.specs.declared.parts.Parts.{Parts}
 use Rattle.claxon_verify.specs.RightStream.{frame_duration}
-use Rattle.claxon_verify.specs.StreamHead.{
+use Rattle.claxon_heads.specs.StreamHead.{
   FoundHead,
   FoundHeadCode,
   FoundHeadFault,

@@ -1,33 +1,5 @@
 -- What stands after the last frame.
-use Rattle.std.specs.Prelude.{
-  All,
-  ◌≡◌,
-  ◌≢◌,
-  ◌⊎◌,
-  ◌↔◌,
-  ◌<◌,
-  ◌≤◌,
-  ◌+◌,
-  ◌-◌,
-  ◌%◌,
-  ◌^◌,
-  ℕ,
-  Bool,
-  false,
-  IfOk,
-  IsTrue,
-  List,
-  [],
-  ◌∷◌,
-  ◌++◌,
-  codes,
-  length,
-  take,
-  Option,
-  None,
-  Some,
-  Result,
-}
+use Rattle.std.specs.Prelude.{All, ◌≡◌, ◌≢◌, ◌⊎◌, ◌↔◌, ◌<◌, ◌≤◌, ◌+◌, ◌%◌, ◌^◌, ℕ, Bool, false, IfOk, IsTrue, List, [], ◌∷◌, ◌++◌, codes, length, take, Option, None, Some, Result}
 use Rattle.claxon.specs.Bits.{bits_of}
 use Rattle.claxon.specs.Error.{IsFault}
 use Rattle.claxon.specs.Errors.{Error}

@@ -40,7 +40,7 @@ use Rattle.claxon_verify.specs.Notes.{
 }
 use Rattle.claxon_verify.specs.Places.{FoundPart, list_of, places_of, scan_part}
 use Rattle.claxon_verify.specs.RightStream.{bytes_of_frames, frame_duration}
-use Rattle.claxon_verify.specs.StreamHead.{FoundHead, FoundHeadCode}
+use Rattle.claxon_heads.specs.StreamHead.{FoundHead, FoundHeadCode}
 use Rattle.claxon_verify.specs.Verify.{
   Counts,
   FrameIs,

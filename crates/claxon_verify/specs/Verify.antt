@@ -1,40 +1,5 @@
 -- What is found in a stream: frames and faults, one after another, counted to its end.
-use Rattle.std.specs.Prelude.{
-  ◌≡◌,
-  ◌≢◌,
-  ◌==◌,
-  ◌⊎◌,
-  ◌↔◌,
-  ◌<◌,
-  ◌≤◌,
-  ◌+◌,
-  ◌*◌,
-  ◌%◌,
-  ◌^◌,
-  ℕ,
-  Bool,
-  false,
-  true,
-  List,
-  [],
-  ◌∷◌,
-  ◌++◌,
-  codes,
-  if◌then◌else◌,
-  length,
-  map,
-  Option,
-  None,
-  Some,
-  IfErr,
-  IfOk,
-  IsErrAnd,
-  IsOkAnd,
-  IsTrue,
-  Ok,
-  Err,
-  Result,
-}
+use Rattle.std.specs.Prelude.{◌≡◌, ◌≢◌, ◌==◌, ◌⊎◌, ◌↔◌, ◌<◌, ◌≤◌, ◌+◌, ◌%◌, ◌^◌, ℕ, Bool, false, true, List, [], ◌∷◌, ◌++◌, codes, if◌then◌else◌, length, map, Option, None, Some, IfErr, IfOk, IsErrAnd, IsOkAnd, IsTrue, Ok, Err, Result}
 use Rattle.std.specs.List.{sum_by}
 use Rattle.claxon.specs.DecodedFrame.{FrameValue, FrameWithHeader}
 use Rattle.claxon.specs.Error.{IsFault, IsIo}
@@ -45,14 +10,11 @@ use Rattle.claxon.specs.Gives.{ReadFailedIn}
 use Rattle.claxon.specs.MetadataBlock.{info_view}
 use Rattle.claxon.specs.Prefix.{BeginsWith}
 use Rattle.claxon.specs.Promises.{HasNeither, IsOutOfMemory}
-use Rattle.claxon.specs.Source.{Source}
-use Rattle.claxon.specs.State.{State, bytes_in, RemainingIsKnown}
+use Rattle.claxon.specs.State.{State, RemainingIsKnown}
 use Rattle.claxon.specs.Streaminfo.{Streaminfo}
 use Rattle.claxon.specs.Streams.{stream_of}
 use Rattle.claxon.specs.Errors.{Error}
 use Rattle.claxon.specs.Errors.TheVariants.{OutOfMemory, Unsupported}
-use Rattle.claxon.specs.RunningReader.{running_source, running_value}
-use Rattle.claxon.specs.RunningReaders.{RunningReader}
 use Rattle.claxon_blocks.specs.Frames.{Is32BitFault, IsNotWhole}
 use Rattle.claxon_blocks.specs.Md5Verdict.{IsMd5Verdict}
 use Rattle.claxon_verify.specs.RightStream.{
@@ -63,7 +25,7 @@ use Rattle.claxon_verify.specs.RightStream.{
 }
 use Rattle.claxon_verify.specs.Kept.{AreKept}
 use Rattle.claxon_verify.specs.Places.{FoundPart, list_of, places_of}
-use Rattle.claxon_verify.specs.StreamHead.{
+use Rattle.claxon_heads.specs.StreamHead.{
   FoundHead,
   FoundHeadCode,
   FoundHeadFault,
@@ -82,8 +44,7 @@ use Rattle.claxon_blocks.specs.declared.md5_verdict.Md5Verdict.TheVariants.{NotC
 use Rattle.claxon_verify.specs.declared.report.Place.{Place}
 use Rattle.claxon_verify.specs.declared.report.Places.{Places}
 use Rattle.claxon_verify.specs.declared.report.Report.{Report}
-use Rattle.claxon_verify.specs.declared.report.UnsupportedBlock.{UnsupportedBlock}
-use Rattle.claxon_verify.specs.declared.BytesRead.{BytesRead}
+use Rattle.claxon_heads.specs.declared.head.UnsupportedBlock.{UnsupportedBlock}
 
 -- ---- frames and faults
 
@@ -330,30 +291,6 @@ abbrev pub IsTooMany : Error → Type 0
 IsTooMany (Unsupported text) =
     text.now ≡ codes "more than 18446744073709551615 frames, faults or samples"
 IsTooMany _ = ⊥
-
--- ---- a reader that counts bytes
-
--- the last of these bytes, or the other one if there is none
-abbrev pub last_of : ℕ → List ℕ → ℕ
-last_of other [] = other
-last_of other (byte ∷ bytes) = last_of byte bytes
-
--- the position after more bytes, and the last byte, as one number
-abbrev pub update_position : BytesRead → List ℕ → ℕ
-update_position position more =
-    (position.bytes + length more) % 2 ^ 64 + 2 ^ 64 * last_of position.last more
-
--- the bytes of such a reader
-abbrev pub counted_bytes : {R : Type 0} → (R → Source ℕ) → RunningReader R BytesRead → State ℕ
-counted_bytes source input = bytes_in (running_source source update_position) input
-
--- how many were read
-abbrev pub position_of : {R : Type 0} → RunningReader R BytesRead → ℕ
-position_of input = (running_value input).bytes
-
--- the last of them
-abbrev pub last_read : {R : Type 0} → RunningReader R BytesRead → ℕ
-last_read input = (running_value input).last
 
 -- ---- what was counted
 

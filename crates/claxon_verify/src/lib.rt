@@ -11,6 +11,7 @@ ghost use Rattle.claxon_verify.specs.Kept.{AreKept, Keeps};
 ghost use Rattle.claxon_verify.specs.Notes.{NotesAreExact, WalkIsNoted};
 ghost use Rattle.claxon_verify.specs.Places.{places_at};
 ghost use Rattle.claxon_verify.specs.Trailing.{TrailingOf, VerifyTrailingIsTold, WalksToTail};
+ghost use Rattle.claxon_heads.specs.BytesRead.{counted_bytes, last_of, position_of, update_position};
 ghost use Rattle.claxon_verify.specs.Verify.{
   KeepsAtMost,
   NothingIsWrong,
@@ -25,10 +26,6 @@ ghost use Rattle.claxon_verify.specs.Verify.{
   VerifyIsSound,
   VerifyOutOfMemoryAfterHeader,
   VerifyPromises,
-  counted_bytes,
-  last_of,
-  position_of,
-  update_position,
 };
 ghost use Rattle.claxon_blocks.specs.Md5Verdict.{Md5IsJudged, Md5IsShown};
 ghost use Rattle.claxon_verify.specs.Walk.{WalksToEnd};
@@ -37,19 +34,18 @@ ghost use Rattle.claxon_verify.specs.declared.report.Place.{Place};
 use crate::report::{Found, Notes, Report, UnsupportedBlock};
 use claxon::input::ReadBytes;
 use claxon::metadata::StreamInfo;
-use claxon::running::{Running, RunningReader};
+use claxon::running::RunningReader;
 use claxon::{Error, Result};
 use claxon_blocks::frames::read_frame;
 use claxon_blocks::md5_verdict::{Md5Verdict, computed_md5, judge_md5};
 use claxon_command_line::progress::Progress;
+use claxon_heads::{BytesRead, read_head};
 use claxon_md5::Md5;
-use head::read_head;
 use std::alloc::Allocator;
 use std::io::Write;
 use walk::{ByteRange, Walk, at_end, too_many, trailing, with_fault, with_frame};
 
 mod due;
-mod head;
 mod parts;
 mod places;
 pub mod report;
@@ -59,49 +55,6 @@ pub mod trailing;
 mod walk;
 
 pub use parts::verify_parts;
-
-// The number of bytes that were read, modulo 2^64. A reader keeps it as it keeps a CRC.
-#[derive(Clone, Copy, Drop)]
-struct BytesRead {
-    bytes: u64,
-    // The last of them, if there is one.
-    last: u8,
-}
-
-impl Running for BytesRead {
-    ghost update = { update_position };
-
-    ghost start = { record { bytes = 0; last = 0 } };
-
-    fn zero() -> BytesRead {
-        BytesRead { bytes: 0, last: 0 }
-    }
-
-    #[inline(always)]
-    fn next(self, byte: u8) -> BytesRead {
-        BytesRead {
-            bytes: self.bytes.wrapping_add(1),
-            last: byte,
-        }
-    }
-
-    fn after(self, bytes: &[u8]) -> BytesRead {
-        BytesRead {
-            bytes: self.bytes.wrapping_add(bytes.len() as u64),
-            last: last_or(bytes, self.last),
-        }
-    }
-}
-
-// The last byte, or the other one if there is none.
-fn last_or(bytes: &[u8], other: u8) -> u8
-    ensures { result ≡ last_of other bytes.now }
-{
-    match bytes {
-        [.., last] => *last,
-        _ => other,
-    }
-}
 
 /// Decodes all frames of a stream, and goes on after each fault but an `IoError`. The MD5 sum of the samples is computed if
 /// `computes_md5` is true. After the first place `more` of them are kept. If the streaminfo says how many samples there are,

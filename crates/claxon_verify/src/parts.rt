@@ -26,26 +26,25 @@ ghost use Rattle.claxon_verify.specs.PartFaults.{
   PartsFaultIsSound,
   StopsWalk,
 };
+ghost use Rattle.claxon_heads.specs.BytesRead.{counted_bytes, position_of};
 ghost use Rattle.claxon_verify.specs.Verify.{
   KeepsAtMost,
   VerifyIsQuiet,
-  counted_bytes,
-  position_of,
 };
 
 use crate::due::FoundFrame;
-use crate::head::read_head;
 use crate::report::{Notes, Report};
 use crate::scan::{Scan, Scanned};
 use crate::trailing::BytesAfter;
 use crate::walk::{ByteRange, Walk, too_many, with_frame};
-use crate::{BytesRead, report_of};
+use crate::report_of;
 use claxon::input::ReadBytes;
 use claxon::metadata::StreamInfo;
 use claxon::running::RunningReader;
 use claxon::{Error, Result};
 use claxon_blocks::frames::{FirstBytes, FrameError, is_32_bit_fault};
 use claxon_command_line::progress::Progress;
+use claxon_heads::{BytesRead, read_head};
 use claxon_recovery::{Cause, Damage, Part, Parts};
 use std::alloc::Global;
 use std::io::{self, ErrorKind, Write};

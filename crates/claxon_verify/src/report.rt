@@ -4,6 +4,8 @@ use claxon_blocks::frames::FrameError;
 use claxon_blocks::md5_verdict::Md5Verdict;
 use std::alloc::{Allocator, Global};
 
+pub use claxon_heads::UnsupportedBlock;
+
 /// What was found in a stream.
 #[derive(Debug, Drop)]
 pub struct Report<A: Allocator = Global> {
@@ -21,25 +23,6 @@ pub struct Report<A: Allocator = Global> {
     pub trailing: Option<Trailing>,
     /// Nothing is wrong, and nothing of the metadata isn't supported: see `IsRightStream`.
     pub is_right: bool,
-}
-
-/// Why a metadata block is passed over. Other decoders accept it, and the frames may be right.
-#[derive(Clone, Copy, Debug)]
-pub enum UnsupportedBlock {
-    /// It is a second Vorbis comment block.
-    SecondComments,
-    /// A tag or the vendor string isn't UTF-8.
-    NotUtf8,
-    /// A tag has no `=`.
-    NoSeparator,
-    /// The name of a tag has a byte other than 0x20 to 0x7d.
-    FieldName,
-    /// Bytes are left after the last tag.
-    BytesLeft,
-    /// It is a Vorbis comment block of more than 10 MiB.
-    LargeComments,
-    /// It is an application block of more than 10 MiB.
-    LargeApplication,
 }
 
 /// What the frames of a stream are.

@@ -1,9 +1,9 @@
 use Rattle.std.proofs.Common.{inl, inr, ap, refl, sym, ◌∙◌}
 use Rattle.std.proofs.lemmas.Result.{err_from_is_err_and}
 use Rattle.claxon.specs.StreamInfos.{StreamInfo}
-use Rattle.claxon_verify.specs.Verify.{counted_bytes, position_of}
+use Rattle.claxon_heads.specs.BytesRead.{counted_bytes, position_of}
 use Rattle.claxon_verify.proofs.Noted.{noted_stream}
-use Rattle.claxon_verify.proofs.Walking.{front_from_start}
+use Rattle.claxon_heads.proofs.Positions.{front_from_start}
 use Rattle.claxon_verify.proofs.Verified.{all_counted, counted_places, head_consumed, no_head, few_kept, not_counted}
 use Rattle.claxon_command_line.proofs.Showing.{started_quietly}
 use Rattle.claxon_verify.proofs.FramesTrailed.{frames_told}

@@ -4,10 +4,11 @@ use Rattle.std.specs.Prelude.{Ok, Some}
 use Rattle.claxon.specs.DecodedFrames.{DecodedFrame}
 use Rattle.claxon.specs.FrameReader.{stream_with}
 use Rattle.claxon_blocks.specs.Frames.{decoder_answer, frame_block}
-use Rattle.claxon_verify.specs.Verify.{counted_bytes}
-use Rattle.claxon_verify.specs.declared.BytesRead.{BytesRead}
+use Rattle.claxon_heads.specs.BytesRead.{counted_bytes}
+use Rattle.claxon_heads.specs.declared.bytes_read.BytesRead.{BytesRead}
 use Rattle.claxon_command_line.proofs.Showing.{shown_quietly, shown_total_same}
-use Rattle.claxon_verify.proofs.Walking.{Moves, at_eof, cut_found, cut_noted, eof_found, eof_noted, fault_added, frame_added, end_few, end_more, fault_few, frame_as, frame_exceeds, frame_few, none_few, none_so_far, same_more, position_after, position_modulo, read_as, failed_from}
+use Rattle.claxon_heads.proofs.Positions.{position_after, position_modulo}
+use Rattle.claxon_verify.proofs.Walking.{Moves, at_eof, cut_found, cut_noted, eof_found, eof_noted, fault_added, frame_added, end_few, end_more, fault_few, frame_as, frame_exceeds, frame_few, none_few, none_so_far, same_more, read_as, failed_from}
 use Rattle.claxon.specs.MetadataBlock.{info_view}
 use Rattle.claxon_verify.proofs.FramesTrailed.{cut_tail, cut_to_tail, eof_tail, eof_to_tail, fault_tail, frame_tail, no_frames}
 use Rattle.claxon_verify.proofs.walk_frames.Goals.{in-Ok-Some+in_ok-walk-in-Ok-Some, in-Err+in_ok-walk-in-Err+else-is_last}

@@ -2,7 +2,7 @@ use Rattle.std.proofs.Common.{◌≡◌, ◌≤◌, length, Some}
 use Rattle.claxon.specs.FrameReader.{stream_with}
 use Rattle.claxon.specs.MetadataBlock.{info_view}
 use Rattle.claxon_command_line.specs.Progress.{StaysQuiet, shown_total}
-use Rattle.claxon_verify.specs.Verify.{counted_bytes, position_of}
+use Rattle.claxon_heads.specs.BytesRead.{counted_bytes, position_of}
 use Rattle.claxon_verify.proofs.FramesTrailed.{FramesTail}
 use Rattle.claxon_verify.proofs.Walking.{WalkedSoFar}
 use Rattle.claxon_verify.proofs.walk_frames.Given as goal

@@ -1,11 +1,11 @@
 use Rattle.std.proofs.Common.{◌≡◌, ◌<◌, ◌^◌, ℕ, ap, inl, inr, refl, subst}
 use Rattle.std.proofs.lemmas.Result.{err_from_is_err_and}
-use Rattle.claxon_verify.specs.Verify.{counted_bytes, position_of}
-use Rattle.claxon_verify.specs.declared.BytesRead.{BytesRead}
+use Rattle.claxon_heads.specs.BytesRead.{counted_bytes, position_of}
+use Rattle.claxon_heads.specs.declared.bytes_read.BytesRead.{BytesRead}
 use Rattle.claxon_verify.proofs.PartsStopped.{after_head, begins_with_head, head_keeps, head_stops, memory_stops, parts_stop}
 use Rattle.claxon_verify.proofs.PartsVerified.{CountsParts, counts_from, parts_verified}
 use Rattle.claxon_verify.proofs.Verified.{head_consumed}
-use Rattle.claxon_verify.proofs.Walking.{front_from_start}
+use Rattle.claxon_heads.proofs.Positions.{front_from_start}
 use Rattle.claxon_verify.proofs.PartsTrailed.{CountsToTail, tail_from, trailing_told}
 use Rattle.claxon_verify.proofs.parts.verify_counted_parts.Goals as goal
 
