@@ -121,3 +121,11 @@ pub(crate) fn info(min_block_size: u16, max_block_size: u16) -> StreamInfo {
         md5sum: [0; 16],
     }
 }
+
+// The same, or none.
+pub(crate) fn known_of(block_sizes: Option<(u16, u16)>) -> Option<StreamInfo> {
+    match block_sizes {
+        Some((min, max)) => Some(info(min, max)),
+        None => None,
+    }
+}

@@ -1,6 +1,9 @@
 //! Streams of large frames, out of order, damaged, with a seek table that lies, and far into a source.
-use super::{FRAMES, HEAD, Source, next_block, stream};
-use claxon::Error;
+use super::{
+    BLOCKS, Blocks, FRAMES, HEAD, Source, block_of, finds, finds_at_last, has_failed_on_purpose,
+    is_next, is_next_at_last, next_block, stream,
+};
+use claxon::{Error, Result};
 use claxon_seekable::SeekableReader;
 use std::alloc::{AllocError, Global};
 use std::io;
@@ -23,7 +26,10 @@ const LARGE: [LargeFrame; 4] = [
     LargeFrame { header: [0xff, 0xf8, 0x79, 0x02, 0x03, 0xff, 0xfe, 0x63, 0x02], value: 4, footer: [0x3d, 0x40] },
 ];
 
-const LARGE_BLOCK: u64 = 65_535;
+const LARGE_BLOCKS: Blocks = Blocks {
+    size: 65_535,
+    count: 4,
+};
 
 // A streaminfo of one channel of 8 bits and blocks of 65535 samples, and these frames.
 fn large_stream(alloc: Global, frames: &[LargeFrame]) -> std::result::Result<Vec<u8>, AllocError> {
@@ -41,117 +47,173 @@ fn large_stream(alloc: Global, frames: &[LargeFrame]) -> std::result::Result<Vec
     Ok(bytes)
 }
 
+// The same frames in another order.
+#[rattlefmt::skip]
+const SWAPPED: [LargeFrame; 4] = [
+    LargeFrame { header: [0xff, 0xf8, 0x79, 0x02, 0x02, 0xff, 0xfe, 0x08, 0x02], value: 3, footer: [0xc2, 0x4d] },
+    LargeFrame { header: [0xff, 0xf8, 0x79, 0x02, 0x03, 0xff, 0xfe, 0x63, 0x02], value: 4, footer: [0x3d, 0x40] },
+    LargeFrame { header: [0xff, 0xf8, 0x79, 0x02, 0x00, 0xff, 0xfe, 0xde, 0x02], value: 1, footer: [0xbc, 0x7a] },
+    LargeFrame { header: [0xff, 0xf8, 0x79, 0x02, 0x01, 0xff, 0xfe, 0xb5, 0x02], value: 2, footer: [0xc3, 0x6c] },
+];
+
+// Samples, and the number of the block that has each.
+const LARGE_SAMPLES: [(u64, u64); 5] = [
+    (0, 0),
+    (262_139, 3),
+    (65_534, 0),
+    (65_535, 1),
+    (140_000, 2),
+];
+
+// Whether each of these samples is found, its block is the next one, and a sample after the last one isn't found.
+fn has_large_blocks<R: Read + Seek>(alloc: Global, flac: &mut SeekableReader<R>) -> bool {
+    let mut all = true;
+    for (sample, number) in &LARGE_SAMPLES {
+        all = all
+            && finds(flac, *sample, Some(number.saturating_mul(65_535)))
+            && is_next(alloc, flac, LARGE_BLOCKS, *number);
+    }
+    all && finds(flac, 262_140, None)
+}
+
+fn is_large_stream(alloc: Global, frames: &[LargeFrame], most: usize) -> Result<bool> {
+    let bytes = large_stream(alloc, frames)?;
+    let mut flac = SeekableReader::new(alloc, Source::new(bytes.as_slice(), most, 0))?;
+    Ok(has_large_blocks(alloc, &mut flac))
+}
+
 // Each frame takes several reads, and more than the first attempt. In another order headers don't lead to most frames.
 #[test]
 fn large_frames(rt: HostRuntime) -> std::result::Result<(), Fail> {
-    let alloc = rt.alloc();
-    let swapped = [LARGE[2], LARGE[3], LARGE[0], LARGE[1]];
-    for (frames, most) in [(LARGE, 99_999), (swapped, 99_999), (swapped, 1000)] {
-        let bytes = large_stream(alloc, &frames)?;
-        let mut flac = SeekableReader::new(alloc, Source::new(bytes.as_slice(), most, 0))
-            .ok()
-            .ok_or("head")?;
-        for (sample, frame) in [
-            (0u64, 0u64),
-            (262_139, 3),
-            (65_534, 0),
-            (65_535, 1),
-            (140_000, 2),
-        ] {
-            let found = flac.seek(sample).ok().ok_or("seek")?.ok_or("none")?;
-            assert_eq!(rt; found.time, frame * LARGE_BLOCK);
-            assert_eq!(rt;
-                next_block(alloc, &mut flac).ok().ok_or("block")?,
-                (frame * LARGE_BLOCK, frame as i32 + 1)
-            );
-        }
-        assert!(rt; flac.seek(262_140).ok().ok_or("seek")?.is_none());
-    }
+    assert!(rt; is_large_stream(rt.alloc(), &LARGE, 99_999)?);
+    assert!(rt; is_large_stream(rt.alloc(), &SWAPPED, 99_999)?);
+    assert!(rt; is_large_stream(rt.alloc(), &SWAPPED, 1000)?);
     Ok(())
+}
+
+// Whether all blocks, the end, and then a sample are given, at the second call where the first one fails on purpose, which is
+// counted.
+fn are_all_next<R: Read + Seek>(
+    alloc: Global,
+    flac: &mut SeekableReader<R>,
+    failures: &mut u32,
+) -> bool {
+    let mut all = true;
+    for number in 0..5 {
+        all = all && is_next_at_last(alloc, flac, LARGE_BLOCKS, number, failures);
+    }
+    all && finds_at_last(flac, 70_000, 65_535, failures)
+}
+
+// The same over a source in which the call of this number fails, after it took bytes. Opening the stream may fail too.
+fn goes_on_after_bytes(alloc: Global, bytes: &[u8], failing: u32, failures: &mut u32) -> bool {
+    match SeekableReader::new(alloc, Source::taking(bytes, 20_000, failing)) {
+        Ok(flac) => {
+            let mut flac = flac;
+            are_all_next(alloc, &mut flac, failures)
+        }
+        Err(error) => {
+            *failures = failures.saturating_add(1);
+            has_failed_on_purpose(&error)
+        }
+    }
 }
 
 // All blocks in turn, over a source in which a call fails, after it took bytes: no byte is lost, and none is read twice.
 #[test]
 fn blocks_after_failures(rt: HostRuntime) -> std::result::Result<(), Fail> {
-    let alloc = rt.alloc();
-    let bytes = large_stream(alloc, &LARGE)?;
-    let mut failures = 0u32;
+    let bytes = large_stream(rt.alloc(), &LARGE)?;
+    let mut failures = 0;
     for failing in 1..40 {
-        let source = Source::taking(bytes.as_slice(), 20_000, failing);
-        let Ok(mut flac) = SeekableReader::new(alloc, source) else {
-            failures = failures.saturating_add(1);
-            continue;
-        };
-        for frame in 0..5u64 {
-            let block = match next_block(alloc, &mut flac) {
-                Err(Error::IoError(_)) => {
-                    failures = failures.saturating_add(1);
-                    next_block(alloc, &mut flac)
-                }
-                block => block,
-            };
-            let wanted = if frame == 4 {
-                (99, 99)
-            } else {
-                (frame * LARGE_BLOCK, frame as i32 + 1)
-            };
-            assert_eq!(rt; block.ok().ok_or("block")?, wanted);
-        }
-        let found = match flac.seek(70_000) {
-            Err(Error::IoError(_)) => {
-                failures = failures.saturating_add(1);
-                flac.seek(70_000)
-            }
-            found => found,
-        };
-        assert!(rt; found.ok().ok_or("seek")?.is_some());
+        assert!(rt;
+            goes_on_after_bytes(rt.alloc(), bytes.as_slice(), failing, &mut failures),
+            "{failing}"
+        );
     }
     assert!(rt; failures > 10, "failures {failures}");
     Ok(())
 }
 
+// Whether all blocks are found but the one of this number.
+fn finds_all_but<R: Read + Seek>(flac: &mut SeekableReader<R>, lost: u64) -> bool {
+    let mut all = true;
+    for number in 0..8u64 {
+        let time = if number == lost {
+            None
+        } else {
+            Some(number * 16)
+        };
+        all = all && finds(flac, number * 16 + 5, time);
+    }
+    all
+}
+
+// Whether that is so with this byte damaged.
+fn is_found_beside(alloc: Global, damaged: usize) -> bool {
+    let mut bytes = stream(11, 128);
+    if let Some(byte) = bytes.get_mut(damaged) {
+        *byte ^= 0x21;
+    }
+    match SeekableReader::new(alloc, Cursor::new(bytes.as_slice())) {
+        Ok(flac) => {
+            let mut flac = flac;
+            finds_all_but(&mut flac, (damaged.saturating_sub(70) / 11) as u64)
+        }
+        Err(_) => false,
+    }
+}
+
 // With each byte of the frames damaged: the block that has it isn't found, and all others are.
 #[test]
-fn damaged_streams(rt: HostRuntime) -> std::result::Result<(), Fail> {
-    let alloc = rt.alloc();
-    for damaged in 70..158usize {
-        let mut bytes = stream(11, 128);
-        bytes[damaged] ^= 0x21;
-        let mut flac = SeekableReader::new(alloc, Cursor::new(bytes.as_slice()))
-            .ok()
-            .ok_or("head")?;
-        for frame in 0..8u64 {
-            let found = flac.seek(frame * 16 + 5).ok().ok_or("seek")?;
-            if frame == (damaged.saturating_sub(70) / 11) as u64 {
-                assert!(rt; found.is_none());
-            } else {
-                assert_eq!(rt; found.map(|block| block.time), Some(frame * 16));
-            }
-        }
+fn damaged_streams(rt: HostRuntime) {
+    for damaged in 70..158 {
+        assert!(rt; is_found_beside(rt.alloc(), damaged), "{damaged}");
     }
-    Ok(())
+}
+
+// Whether the next block is that of this number, or where that one is damaged, a fault.
+fn is_next_or_fault<R: Read + Seek>(
+    alloc: Global,
+    flac: &mut SeekableReader<R>,
+    number: u64,
+    damaged: u64,
+) -> bool {
+    match next_block(alloc, flac) {
+        Ok(block) => block == block_of(BLOCKS, number),
+        Err(Error::FormatError(_)) => number == damaged,
+        Err(_) => false,
+    }
+}
+
+fn are_next_but<R: Read + Seek>(alloc: Global, flac: &mut SeekableReader<R>, damaged: u64) -> bool {
+    let mut all = true;
+    for number in 0..8 {
+        all = all && is_next_or_fault(alloc, flac, number, damaged);
+    }
+    all
+}
+
+// Whether the blocks come like that with the value of this frame damaged.
+fn is_one_lost(alloc: Global, damaged: usize) -> bool {
+    let mut bytes = stream(11, 128);
+    if let Some(byte) = bytes.get_mut(damaged.saturating_mul(11).saturating_add(78)) {
+        *byte ^= 0x21;
+    }
+    match SeekableReader::new(alloc, Cursor::new(bytes.as_slice())) {
+        Ok(flac) => {
+            let mut flac = flac;
+            are_next_but(alloc, &mut flac, damaged as u64)
+        }
+        Err(_) => false,
+    }
 }
 
 // With the value of each frame damaged in turn: the call for that frame names the fault, and no other block is lost.
 #[test]
-fn blocks_after_a_fault(rt: HostRuntime) -> std::result::Result<(), Fail> {
-    let alloc = rt.alloc();
-    for damaged in 0..8usize {
-        let mut bytes = stream(11, 128);
-        bytes[78 + damaged * 11] ^= 0x21;
-        let mut flac = SeekableReader::new(alloc, Cursor::new(bytes.as_slice()))
-            .ok()
-            .ok_or("head")?;
-        for frame in 0..8u64 {
-            let is_right = match next_block(alloc, &mut flac) {
-                Ok(block) => block == (frame * 16, frame as i32 + 1),
-                Err(Error::FormatError(_)) => frame == damaged as u64,
-                Err(_) => false,
-            };
-            assert!(rt; is_right, "frame {frame}, damaged {damaged}");
-        }
+fn blocks_after_a_fault(rt: HostRuntime) {
+    for damaged in 0..8 {
+        assert!(rt; is_one_lost(rt.alloc(), damaged), "damaged {damaged}");
     }
-    Ok(())
 }
 
 // The header of a seek table, and two points of 16 samples: sample 0 at byte 44, and sample 64 at byte 0.
@@ -162,21 +224,29 @@ const LYING_TABLE: [u8; 40] = [
     0x00, 0x00, 0x00, 0x00, 0x00, 0x00, 0x00, 0x40, 0x00, 0x00, 0x00, 0x00, 0x00, 0x00, 0x00, 0x00, 0x00, 0x10,
 ];
 
-#[test]
-fn seek_table_that_lies(rt: HostRuntime) -> std::result::Result<(), Fail> {
-    let alloc = rt.alloc();
-    let mut bytes = Vec::new(alloc);
-    bytes.extend_from_slice(&HEAD[..42])?;
+fn with_lying_table(alloc: Global) -> std::result::Result<Vec<u8>, AllocError> {
+    let mut bytes = Vec::from_slice(alloc, &HEAD[..42])?;
     bytes.extend_from_slice(&LYING_TABLE)?;
     bytes.extend_from_slice(&FRAMES)?;
-    let mut flac = SeekableReader::new(alloc, Cursor::new(bytes.as_slice()))
-        .ok()
-        .ok_or("head")?;
-    for frame in [0u64, 4, 7, 1, 5] {
-        let found = flac.seek(frame * 16).ok().ok_or("seek")?;
-        assert_eq!(rt; found.map(|block| block.time), Some(frame * 16));
-        assert_eq!(rt; flac.position(), 82 + frame * 11);
+    Ok(bytes)
+}
+
+// Whether a seek to the first sample of each of these blocks finds it, where its frame is. The first frame has this position.
+fn finds_from<R: Read + Seek>(flac: &mut SeekableReader<R>, first: u64, numbers: &[u64]) -> bool {
+    let mut all = true;
+    for number in numbers {
+        let position = number.saturating_mul(11).saturating_add(first);
+        let time = number.saturating_mul(16);
+        all = all && finds(flac, time, Some(time)) && flac.position() == position;
     }
+    all
+}
+
+#[test]
+fn seek_table_that_lies(rt: HostRuntime) -> std::result::Result<(), Fail> {
+    let bytes = with_lying_table(rt.alloc())?;
+    let mut flac = SeekableReader::new(rt.alloc(), Cursor::new(bytes.as_slice()))?;
+    assert!(rt; finds_from(&mut flac, 82, &[0, 4, 7, 1, 5]));
     Ok(())
 }
 
@@ -209,24 +279,32 @@ impl Seek for FarSource<'_> {
     }
 }
 
+// The position of the first frame.
+const FIRST_FRAME: u64 = 0x1_0000_004b;
+
+// Whether a seek to the last sample of the block finds it, where its frame is, and it is the next one.
+fn is_far_block<R: Read + Seek>(alloc: Global, flac: &mut SeekableReader<R>, number: u64) -> bool {
+    let time = number.saturating_mul(16);
+    finds(flac, time.saturating_add(15), Some(time))
+        && flac.position() == number.saturating_mul(11).saturating_add(FIRST_FRAME)
+        && is_next(alloc, flac, BLOCKS, number)
+}
+
+fn has_far_blocks<R: Read + Seek>(alloc: Global, flac: &mut SeekableReader<R>) -> bool {
+    let mut all = flac.position() == FIRST_FRAME;
+    for number in [7, 0, 4, 5] {
+        all = all && is_far_block(alloc, flac, number);
+    }
+    all && finds(flac, 128, None)
+}
+
 #[test]
 fn stream_beyond_4_gib(rt: HostRuntime) -> std::result::Result<(), Fail> {
-    let alloc = rt.alloc();
     let bytes = stream(11, 128);
     let source = FarSource {
         bytes: Cursor::new(bytes.as_slice()),
     };
-    let mut flac = SeekableReader::new(alloc, source).ok().ok_or("head")?;
-    assert_eq!(rt; flac.position(), 0x1_0000_004b);
-    for frame in [7u64, 0, 4, 5] {
-        let found = flac.seek(frame * 16 + 15).ok().ok_or("seek")?;
-        assert_eq!(rt; found.map(|block| block.time), Some(frame * 16));
-        assert_eq!(rt; flac.position(), 0x1_0000_004b + frame * 11);
-        assert_eq!(rt;
-            next_block(alloc, &mut flac).ok().ok_or("block")?,
-            (frame * 16, frame as i32 + 1)
-        );
-    }
-    assert!(rt; flac.seek(128).ok().ok_or("seek")?.is_none());
+    let mut flac = SeekableReader::new(rt.alloc(), source)?;
+    assert!(rt; has_far_blocks(rt.alloc(), &mut flac));
     Ok(())
 }
