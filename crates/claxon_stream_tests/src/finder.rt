@@ -3,7 +3,7 @@
 use claxon::metadata::StreamInfo;
 use claxon_seek::{BlockMemory, Search, find_frame};
 use claxon_stream::{Event, FindEvent, FrameDecoder, FrameFinder};
-use std::alloc::Global;
+use std::alloc::{AllocError, Global};
 use std::test::Fail;
 
 // Four frames, one after another.
@@ -16,6 +16,24 @@ const STREAM: [u8; 44] = [
 ];
 
 const STREAM_AT: [u64; 4] = [0, 11, 22, 33];
+
+// They without their last byte.
+#[rattlefmt::skip]
+const CUT: [u8; 43] = [
+    0xff, 0xf8, 0x69, 0x02, 0x00, 0x0f, 0xb7, 0x00, 0x01, 0x7a, 0x27,
+    0xff, 0xf8, 0x69, 0x02, 0x01, 0x0f, 0xa2, 0x00, 0x02, 0x7b, 0x51,
+    0xff, 0xf8, 0x69, 0x02, 0x02, 0x0f, 0x9d, 0x00, 0x03, 0xf8, 0xd0,
+    0xff, 0xf8, 0x69, 0x02, 0x03, 0x0f, 0x88, 0x00, 0x04, 0x79,
+];
+
+// They with a wrong footer of the first one.
+#[rattlefmt::skip]
+const WRONG_FOOTER: [u8; 44] = [
+    0xff, 0xf8, 0x69, 0x02, 0x00, 0x0f, 0xb7, 0x00, 0x01, 0x7a, 0x26,
+    0xff, 0xf8, 0x69, 0x02, 0x01, 0x0f, 0xa2, 0x00, 0x02, 0x7b, 0x51,
+    0xff, 0xf8, 0x69, 0x02, 0x02, 0x0f, 0x9d, 0x00, 0x03, 0xf8, 0xd0,
+    0xff, 0xf8, 0x69, 0x02, 0x03, 0x0f, 0x88, 0x00, 0x04, 0x79, 0xbd,
+];
 
 // The first one after bytes that begin none, sync codes among them, and before two bytes.
 #[rattlefmt::skip]
@@ -80,6 +98,24 @@ fn answer(
     finder.find_next(alloc, bytes, at as u64, is_end, None)
 }
 
+// The same without the frame that is found.
+#[derive(Clone, Copy)]
+enum Step {
+    Found(u64),
+    NotFound,
+    ReadOn(usize),
+    Failed,
+}
+
+fn step_of(event: claxon::Result<FindEvent>) -> Step {
+    match event {
+        Ok(FindEvent::Found(position, _)) => Step::Found(position),
+        Ok(FindEvent::NotFound) => Step::NotFound,
+        Ok(FindEvent::ReadOn(needed)) => Step::ReadOn(needed.position as usize),
+        Err(_) => Step::Failed,
+    }
+}
+
 // Whether just the frames at these positions are found, one after another, in pieces of this size, where the bytes before those that
 // are needed are dropped.
 fn finds(
@@ -89,7 +125,7 @@ fn finds(
     is_known: bool,
     size: usize,
     wanted: &[u64],
-) -> claxon::Result<bool> {
+) -> bool {
     let mut at = 0usize;
     let mut given = 0usize;
     let mut found = 0usize;
@@ -97,198 +133,269 @@ fn finds(
         let end = given.min(bytes.len());
         let start = at.min(end);
         let is_end = end == bytes.len();
-        match answer(finder, alloc, &bytes[start..end], start, is_end, is_known)? {
-            FindEvent::Found(position, _) => {
+        match step_of(answer(finder, alloc, &bytes[start..end], start, is_end, is_known)) {
+            Step::Found(position) => {
                 if found >= wanted.len() || wanted[found] != position {
-                    return Ok(false);
+                    return false;
                 }
                 found = found.saturating_add(1);
             }
-            FindEvent::NotFound => return Ok(found == wanted.len()),
-            FindEvent::ReadOn(needed) => {
-                at = needed.position as usize;
+            Step::NotFound => return found == wanted.len(),
+            Step::ReadOn(position) => {
+                at = position;
                 given = end.saturating_add(size);
             }
+            Step::Failed => return false,
         }
     }
-    Ok(false)
+    false
 }
 
 // The bytes, whether the number of channels and the bit depth are known, the position from which on is searched, and where frames begin.
-#[test]
-fn frames_in_pieces(rt: HostRuntime) -> Result<(), Fail> {
-    let mut wrong_footer = STREAM;
-    wrong_footer[10] = 0x26;
-    #[rattlefmt::skip]
-    let rows: [(&[u8], bool, u64, &[u64]); 14] = [
-        (&STREAM, true, 0, &[0, 11, 22, 33]),
-        (&STREAM, true, 1, &[11, 22, 33]),
-        (&STREAM, true, 34, &[]),
-        (&STREAM, true, 44, &[]),
-        (&STREAM, true, 50, &[]),
-        (&STREAM[..43], true, 0, &[0, 11, 22]),
-        (&wrong_footer, true, 0, &[11, 22, 33]),
-        (&AMONG_OTHERS, true, 0, &[8]),
-        (&AFTER_A_HEADER, true, 0, &[7, 18]),
-        (&AFTER_A_CUT_FRAME, true, 0, &[10, 21]),
-        (&OF_TWO_CHANNELS, true, 0, &[13]),
-        (&OF_TWO_CHANNELS, false, 0, &[0, 13]),
-        (&[0; 20], true, 0, &[]),
-        (&[], true, 0, &[]),
-    ];
-    for (bytes, is_known, from, wanted) in rows {
-        for size in [1usize, 2, 3, 7, 100] {
-            let mut finder = FrameFinder::new(from);
-            assert!(rt; finds(&mut finder, rt.alloc(), bytes, is_known, size, wanted)?);
-            assert!(rt; !finder.has_passed_over() && !finder.is_over_budget());
-        }
-    }
-    Ok(())
+type Row = (&'static [u8], bool, u64, &'static [u64]);
+
+#[rattlefmt::skip]
+const ROWS: [Row; 14] = [
+    (&STREAM, true, 0, &[0, 11, 22, 33]),
+    (&STREAM, true, 1, &[11, 22, 33]),
+    (&STREAM, true, 34, &[]),
+    (&STREAM, true, 44, &[]),
+    (&STREAM, true, 50, &[]),
+    (&CUT, true, 0, &[0, 11, 22]),
+    (&WRONG_FOOTER, true, 0, &[11, 22, 33]),
+    (&AMONG_OTHERS, true, 0, &[8]),
+    (&AFTER_A_HEADER, true, 0, &[7, 18]),
+    (&AFTER_A_CUT_FRAME, true, 0, &[10, 21]),
+    (&OF_TWO_CHANNELS, true, 0, &[13]),
+    (&OF_TWO_CHANNELS, false, 0, &[0, 13]),
+    (&[0; 20], true, 0, &[]),
+    (&[], true, 0, &[]),
+];
+
+// Whether the frames of a row are found in pieces of this size, within the budget.
+fn is_found(alloc: Global, row: &Row, size: usize) -> bool {
+    let (bytes, is_known, from, wanted) = *row;
+    let mut finder = FrameFinder::new(from);
+    finds(&mut finder, alloc, bytes, is_known, size, wanted)
+        && !finder.has_passed_over()
+        && !finder.is_over_budget()
 }
 
-// Bytes that aren't the end of the stream, and which bytes are needed then: in a header, in a frame, and after bytes that are passed.
 #[test]
-fn needed_bytes(rt: HostRuntime) -> Result<(), Fail> {
-    #[rattlefmt::skip]
-    let rows: [(&[u8], u64, usize); 9] = [
-        (&[], 0, 2),
-        (&[0], 0, 2),
-        (&[0, 0], 1, 2),
-        (&[0, 0xff], 1, 2),
-        (&STREAM[..1], 0, 2),
-        (&STREAM[..2], 0, 3),
-        (&STREAM[..10], 0, 11),
-        (&AMONG_OTHERS[..14], 8, 7),
-        (&AFTER_A_HEADER[..8], 7, 2),
-    ];
-    for (bytes, position, count) in rows {
-        let mut finder = FrameFinder::new(0);
-        match answer(&mut finder, rt.alloc(), bytes, 0, false, true)? {
-            FindEvent::ReadOn(needed) => {
-                assert!(rt; needed.position == position && needed.count == count);
-                assert!(rt; finder.position() == position);
-            }
-            _ => assert!(rt; false),
+fn frames_in_pieces(rt: HostRuntime) {
+    for (number, row) in ROWS.iter().enumerate() {
+        for size in [1, 2, 3, 7, 100] {
+            assert!(rt; is_found(rt.alloc(), row, size), "{number} {size}");
         }
     }
-    Ok(())
+}
+
+// Bytes, and how many of them there are: a part of the stream that isn't its end. Which bytes are needed then.
+type Part = (&'static [u8], usize, u64, usize);
+
+#[rattlefmt::skip]
+const PARTS: [Part; 9] = [
+    (&[], 0, 0, 2),
+    (&[0], 1, 0, 2),
+    (&[0, 0], 2, 1, 2),
+    (&[0, 0xff], 2, 1, 2),
+    (&STREAM, 1, 0, 2),
+    (&STREAM, 2, 0, 3),
+    (&STREAM, 10, 0, 11),
+    (&AMONG_OTHERS, 14, 8, 7),
+    (&AFTER_A_HEADER, 8, 7, 2),
+];
+
+fn is_needed(alloc: Global, part: &Part) -> bool {
+    let (bytes, len, position, count) = *part;
+    let mut finder = FrameFinder::new(0);
+    let bytes = &bytes[..len.min(bytes.len())];
+    match answer(&mut finder, alloc, bytes, 0, false, true) {
+        Ok(FindEvent::ReadOn(needed)) => {
+            needed.position == position && needed.count == count && finder.position() == position
+        }
+        _ => false,
+    }
+}
+
+// In a header, in a frame, and after bytes that are passed.
+#[test]
+fn needed_bytes(rt: HostRuntime) {
+    for (number, part) in PARTS.iter().enumerate() {
+        assert!(rt; is_needed(rt.alloc(), part), "{number}");
+    }
+}
+
+// 35,000 times these two bytes, and a frame.
+fn damaged(alloc: Global, pair: &[u8; 2]) -> Result<Vec<u8>, AllocError> {
+    let mut bytes = Vec::new(alloc);
+    for _ in 0..35_000 {
+        bytes.extend_from_slice(pair)?;
+    }
+    bytes.extend_from_slice(&STREAM[..11])?;
+    Ok(bytes)
+}
+
+// Whether the frame is found in pieces of this size.
+fn finds_after_damage(alloc: Global, bytes: &[u8], size: usize) -> bool {
+    let mut finder = FrameFinder::new(0);
+    finds(&mut finder, alloc, bytes, true, size, &[70_000]) && finder.position() == 70_011
 }
 
 // A frame after 70,000 bytes of each kind: zeros, bytes 0xff, and sync codes.
 #[test]
 fn much_damage(rt: HostRuntime) -> Result<(), Fail> {
-    let mut bytes = [0; 70_011];
-    bytes[70_000..].copy_from_slice(&STREAM[..11]);
-    for (even, odd) in [(0, 0), (0xff, 0xff), (0xff, 0xf8)] {
-        for i in 0..35_000usize {
-            bytes[2 * i] = even;
-            bytes[2 * i + 1] = odd;
-        }
-        for size in [1usize, 100, 70_011] {
-            let mut finder = FrameFinder::new(0);
-            assert!(rt; finds(&mut finder, rt.alloc(), &bytes, true, size, &[70_000])?);
-            assert!(rt; finder.position() == 70_011);
-        }
-    }
-    Ok(())
-}
-
-// In any pieces the answers are those of `find_frame` over all bytes: three streams, one after another, with seven bytes changed.
-#[test]
-fn beside_find_frame(rt: HostRuntime) -> Result<(), Fail> {
-    let mut memory = BlockMemory::new(rt.alloc());
-    let mut random = 1u64;
-    for _ in 0..300 {
-        let mut bytes = [0; 132];
-        for i in 0..132usize {
-            bytes[i] = STREAM[i % 44];
-        }
-        for _ in 0..7 {
-            random = random
-                .wrapping_mul(6_364_136_223_846_793_005)
-                .wrapping_add(1_442_695_040_888_963_407);
-            bytes[(random >> 33) as usize % 132] = ((random >> 56) & 0xff) as u8;
-        }
-        let mut wanted = [0u64; 12];
-        let mut count = 0usize;
-        let mut from = 0usize;
-        for _ in 0..13 {
-            let mut budget = 1_000_000u64;
-            match find_frame(&mut memory, &bytes, from, Some(INFO), &mut budget)? {
-                Search::Found(frame) if count < 12 => {
-                    wanted[count] = frame.position as u64;
-                    count = count.saturating_add(1);
-                    from = frame.position.saturating_add(11);
-                }
-                _ => break,
-            }
-        }
-        for size in [1usize, 2, 3, 100, 132] {
-            let mut finder = FrameFinder::new(0);
+    for pair in &[[0, 0], [0xff, 0xff], [0xff, 0xf8]] {
+        let bytes = damaged(rt.alloc(), pair)?;
+        for size in [1, 100, 70_011] {
             assert!(rt;
-                finds(
-                    &mut finder,
-                    rt.alloc(),
-                    &bytes,
-                    true,
-                    size,
-                    &wanted[..count.min(12)]
-                )?
+                finds_after_damage(rt.alloc(), bytes.as_slice(), size),
+                "{size}"
             );
         }
     }
     Ok(())
 }
 
-// Of 200 headers that were made to cost time 127 are tried, and those after them are passed over. The frame after them is found.
+// Three streams, one after another, with seven bytes changed by the next numbers of a sequence that looks random.
+fn changed(random: &mut u64) -> [u8; 132] {
+    let mut bytes = [0; 132];
+    for i in 0..132usize {
+        bytes[i] = STREAM[i % 44];
+    }
+    for _ in 0..7 {
+        *random = random
+            .wrapping_mul(6_364_136_223_846_793_005)
+            .wrapping_add(1_442_695_040_888_963_407);
+        bytes[(*random >> 33) as usize % 132] = ((*random >> 56) & 0xff) as u8;
+    }
+    bytes
+}
+
+// The position of the frame that `find_frame` finds from here on.
+fn found_from(
+    memory: &mut BlockMemory,
+    bytes: &[u8],
+    from: usize,
+) -> claxon::Result<Option<usize>> {
+    let mut budget = 1_000_000;
+    match find_frame(memory, bytes, from, Some(INFO), &mut budget)? {
+        Search::Found(frame) => Ok(Some(frame.position)),
+        _ => Ok(None),
+    }
+}
+
+// Whether the frames that `find_frame` finds, up to twelve, are found in any pieces.
+fn is_found_as_by_find_frame(alloc: Global, memory: &mut BlockMemory, bytes: &[u8]) -> bool {
+    let mut wanted = [0; 12];
+    let mut count = 0usize;
+    let mut from = 0usize;
+    for slot in wanted.iter_mut() {
+        match found_from(memory, bytes, from) {
+            Ok(Some(position)) => {
+                *slot = position as u64;
+                count = count.saturating_add(1);
+                from = position.saturating_add(11);
+            }
+            Ok(None) => break,
+            Err(_) => return false,
+        }
+    }
+    let mut all = true;
+    for size in [1, 2, 3, 100, 132] {
+        let mut finder = FrameFinder::new(0);
+        all = all
+            && finds(
+                &mut finder,
+                alloc,
+                bytes,
+                true,
+                size,
+                &wanted[..count.min(12)],
+            );
+    }
+    all
+}
+
+// In any pieces the answers are those of `find_frame` over all bytes.
 #[test]
-fn costly_headers(rt: HostRuntime) -> Result<(), Fail> {
+fn beside_find_frame(rt: HostRuntime) {
+    let mut memory = BlockMemory::new(rt.alloc());
+    let mut random = 1;
+    for round in 0..300 {
+        let bytes = changed(&mut random);
+        assert!(rt;
+            is_found_as_by_find_frame(rt.alloc(), &mut memory, &bytes),
+            "{round}"
+        );
+    }
+}
+
+// 200 headers that were made to cost time, and a frame.
+fn costly_stream() -> [u8; 2_211] {
     let mut bytes = [0; 2_211];
     for i in 0..2_200usize {
         bytes[i] = COSTLY[i % 11];
     }
     bytes[2_200..].copy_from_slice(&STREAM[..11]);
-    for size in [1_000usize, 2_211] {
-        let mut finder = FrameFinder::new(0);
-        assert!(rt; finds(&mut finder, rt.alloc(), &bytes, false, size, &[2_200])?);
-        assert!(rt; finder.has_passed_over());
+    bytes
+}
+
+// Whether the frame is found in pieces of this size, and something was passed over.
+fn passes_over(alloc: Global, bytes: &[u8], size: usize) -> bool {
+    let mut finder = FrameFinder::new(0);
+    finds(&mut finder, alloc, bytes, false, size, &[2_200]) && finder.has_passed_over()
+}
+
+// Of the headers 127 are tried, and those after them are passed over. The frame after them is found.
+#[test]
+fn costly_headers(rt: HostRuntime) {
+    let bytes = costly_stream();
+    for size in [1_000, 2_211] {
+        assert!(rt; passes_over(rt.alloc(), &bytes, size), "{size}");
     }
-    Ok(())
 }
 
 // A search that goes on after frames that were decoded keeps what it cost, but for what the bytes make good.
 #[test]
-fn goes_on(rt: HostRuntime) -> Result<(), Fail> {
+fn goes_on(rt: HostRuntime) {
     let mut finder = FrameFinder::new(0);
     let mut frames = FrameDecoder::new(0);
     finder.go_on(12, &mut frames);
     assert!(rt; finder.position() == 12);
-    assert!(rt; finds(&mut finder, rt.alloc(), &STREAM, true, 44, &[22, 33])?);
+    assert!(rt; finds(&mut finder, rt.alloc(), &STREAM, true, 44, &[22, 33]));
     finder.go_on(0, &mut frames);
-    assert!(rt; finds(&mut finder, rt.alloc(), &STREAM, true, 44, &[0, 11, 22, 33])?);
-    Ok(())
+    assert!(rt; finds(&mut finder, rt.alloc(), &STREAM, true, 44, &STREAM_AT));
+}
+
+// Whether decoding finds a fault here.
+fn is_faulty(alloc: Global, frames: &mut FrameDecoder, bytes: &[u8; 34]) -> bool {
+    let event = frames.decode_next(Vec::new(alloc), bytes, 0, true, None);
+    matches!(event, Ok(Event::Faulty(_)))
+}
+
+// Whether a search that goes on after them finds these frames, and whether it passes over something.
+fn goes_on_after(
+    alloc: Global,
+    frames: &mut FrameDecoder,
+    wanted: &[u64],
+    passes_over: bool,
+) -> bool {
+    let mut finder = FrameFinder::new(0);
+    finder.go_on(0, frames);
+    finds(&mut finder, alloc, &STREAM, true, 44, wanted) && finder.has_passed_over() == passes_over
 }
 
 // The faults of 128 frames of eight channels of 65,535 samples pass the budget of a search, once.
 #[test]
-fn faults_are_charged(rt: HostRuntime) -> Result<(), Fail> {
+fn faults_are_charged(rt: HostRuntime) {
     let mut bytes = [0; 34];
     bytes[..8].copy_from_slice(&COSTLY[..8]);
     let mut frames = FrameDecoder::new(0);
-    let mut faults = 0usize;
-    for _ in 0..128 {
+    for fault in 0..128 {
         frames = frames.from_position(0);
-        let event = frames.decode_next(Vec::new(rt.alloc()), &bytes, 0, true, None)?;
-        if matches!(event, Event::Faulty(_)) {
-            faults = faults.saturating_add(1);
-        }
+        assert!(rt; is_faulty(rt.alloc(), &mut frames, &bytes), "{fault}");
     }
-    assert!(rt; faults == 128);
-    for (wanted, passes_over) in [(&STREAM_AT[..0], true), (&STREAM_AT[..], false)] {
-        let mut finder = FrameFinder::new(0);
-        finder.go_on(0, &mut frames);
-        assert!(rt; finds(&mut finder, rt.alloc(), &STREAM, true, 44, wanted)?);
-        assert!(rt; finder.has_passed_over() == passes_over);
-    }
-    Ok(())
+    assert!(rt; goes_on_after(rt.alloc(), &mut frames, &[], true));
+    assert!(rt; goes_on_after(rt.alloc(), &mut frames, &STREAM_AT, false));
 }

@@ -1,9 +1,9 @@
 //! Frames that are handed in, by rows. They have one channel of 8 bits and 16 samples of one value, and were made by the definitions of
 //! RFC 9639, section 9.
+use claxon::frame::DecodedFrame;
 use claxon::metadata::StreamInfo;
-use claxon_stream::{Event, FrameDecoder};
+use claxon_stream::{Event, FrameDecoder, NeededBytes};
 use std::alloc::Global;
-use std::test::Fail;
 
 // Four frames, one after another.
 #[rattlefmt::skip]
@@ -51,17 +51,29 @@ enum Wanted {
 }
 
 fn is_wanted(event: claxon::Result<Event>, wanted: Wanted) -> bool {
-    match (event, wanted) {
-        (Ok(Event::Decoded(frame)), Wanted::Block(time, value)) => {
+    match event {
+        Ok(Event::Decoded(frame)) => is_block(frame, wanted),
+        Ok(Event::End) => matches!(wanted, Wanted::End),
+        Ok(Event::Faulty(fault)) => matches!(wanted, Wanted::Fault(at) if at == fault.position),
+        Ok(Event::Cut(position)) => matches!(wanted, Wanted::Cut(at) if at == position),
+        Ok(Event::ReadOn(needed)) => is_needed(needed, wanted),
+        Err(_) => false,
+    }
+}
+
+fn is_block(frame: DecodedFrame, wanted: Wanted) -> bool {
+    match wanted {
+        Wanted::Block(time, value) => {
             let samples = frame.block.into_buffer();
-            frame.info.time == time && samples.len() == 16 && samples.iter().all(|x| *x == value)
+            frame.info.time == time && samples.as_slice() == [value; 16].as_slice()
         }
-        (Ok(Event::End), Wanted::End) => true,
-        (Ok(Event::Faulty(fault)), Wanted::Fault(position)) => fault.position == position,
-        (Ok(Event::Cut(at)), Wanted::Cut(position)) => at == position,
-        (Ok(Event::ReadOn(needed)), Wanted::ReadOn(position, count)) => {
-            needed.position == position && needed.count == count
-        }
+        _ => false,
+    }
+}
+
+fn is_needed(needed: NeededBytes, wanted: Wanted) -> bool {
+    match wanted {
+        Wanted::ReadOn(position, count) => needed.position == position && needed.count == count,
         _ => false,
     }
 }
@@ -114,99 +126,132 @@ fn answer(
     frames.decode_next(Vec::new(alloc), bytes, at, is_end, Some(INFO))
 }
 
-// In pieces of each size, also of one byte, each block is answered once its last byte is there.
-#[test]
-fn pieces(rt: HostRuntime) -> Result<(), Fail> {
-    for size in 1..45usize {
-        let mut frames = FrameDecoder::new(0);
-        let mut held = 0usize;
-        let mut given = 0usize;
-        for _ in 0..100 {
-            let bytes = &STREAM[..held.min(44)];
-            match answer(&mut frames, rt.alloc(), bytes, 0, held >= 44)? {
-                Event::Decoded(frame) => {
-                    assert!(rt; frame.info.time == (given as u64).saturating_mul(16));
-                    given = given.saturating_add(1);
-                    assert!(rt; held.saturating_sub(size) < given.saturating_mul(11));
-                }
-                Event::ReadOn(needed) => {
-                    assert!(rt; needed.position == (given as u64).saturating_mul(11));
-                    held = held.saturating_add(size);
-                }
-                Event::End => break,
-                _ => assert!(rt; false),
-            }
-        }
-        assert!(rt; given == 4 && frames.position() == 44);
-    }
-    Ok(())
+// The same without the block, and without the bytes that are needed.
+#[derive(Clone, Copy)]
+enum Step {
+    Block(u64),
+    ReadOn(u64),
+    Fault(u64),
+    End,
+    Other,
 }
 
-// Byte by byte a wrong CRC-16 is answered when twice the frame's bytes are there, and the frames after it are answered too.
-#[test]
-fn wrong_footer_in_pieces(rt: HostRuntime) -> Result<(), Fail> {
-    let mut bytes = STREAM;
-    bytes[10] = 0x26;
+fn step_of(event: claxon::Result<Event>) -> Step {
+    match event {
+        Ok(Event::Decoded(frame)) => Step::Block(frame.info.time),
+        Ok(Event::ReadOn(needed)) => Step::ReadOn(needed.position),
+        Ok(Event::Faulty(fault)) => Step::Fault(fault.position),
+        Ok(Event::End) => Step::End,
+        _ => Step::Other,
+    }
+}
+
+// What is answered where so many bytes of the stream are held.
+fn step_at(frames: &mut FrameDecoder, alloc: Global, bytes: &[u8; 44], held: usize) -> Step {
+    let is_end = held >= 44;
+    step_of(answer(frames, alloc, &bytes[..held.min(44)], 0, is_end))
+}
+
+// Whether each block is answered once its last byte is there, in pieces of this size.
+fn is_answered(alloc: Global, size: usize) -> bool {
     let mut frames = FrameDecoder::new(0);
     let mut held = 0usize;
     let mut given = 0u64;
     for _ in 0..100 {
-        match answer(
-            &mut frames,
-            rt.alloc(),
-            &bytes[..held.min(44)],
-            0,
-            held >= 44,
-        )? {
-            Event::Faulty(fault) => {
-                assert!(rt; given == 0 && fault.position == 0 && held <= 22);
-                given = 1;
-            }
-            Event::Decoded(frame) => {
-                assert!(rt; frame.info.time == given.saturating_mul(16));
+        match step_at(&mut frames, alloc, &STREAM, held) {
+            Step::Block(time) if time == given.saturating_mul(16) => {
                 given = given.saturating_add(1);
+                if held.saturating_sub(size) as u64 >= given.saturating_mul(11) {
+                    return false;
+                }
             }
-            Event::ReadOn(_) => held = held.saturating_add(1),
-            _ => break,
+            Step::ReadOn(position) if position == given.saturating_mul(11) => {
+                held = held.saturating_add(size);
+            }
+            Step::End => return given == 4 && frames.position() == 44,
+            _ => return false,
         }
     }
-    assert!(rt; given == 4 && frames.position() == 44);
-    Ok(())
+    false
+}
+
+// In pieces of each size, also of one byte.
+#[test]
+fn pieces(rt: HostRuntime) {
+    for size in 1..45 {
+        assert!(rt; is_answered(rt.alloc(), size), "{size}");
+    }
+}
+
+// Whether, byte by byte, a wrong CRC-16 of the first frame is answered when twice the frame's bytes are there, and the frames
+// after it are answered too.
+fn is_fault_answered(alloc: Global, bytes: &[u8; 44]) -> bool {
+    let mut frames = FrameDecoder::new(0);
+    let mut held = 0usize;
+    let mut given = 0u64;
+    for _ in 0..100 {
+        match step_at(&mut frames, alloc, bytes, held) {
+            Step::Fault(0) if given == 0 && held <= 22 => given = 1,
+            Step::Block(time) if time == given.saturating_mul(16) => {
+                given = given.saturating_add(1);
+            }
+            Step::ReadOn(_) => held = held.saturating_add(1),
+            Step::End => return given == 4 && frames.position() == 44,
+            _ => return false,
+        }
+    }
+    false
+}
+
+#[test]
+fn wrong_footer_in_pieces(rt: HostRuntime) {
+    let mut bytes = STREAM;
+    bytes[10] = 0x26;
+    assert!(rt; is_fault_answered(rt.alloc(), &bytes));
+}
+
+fn is_read_on(event: claxon::Result<Event>) -> bool {
+    matches!(event, Ok(Event::ReadOn(_)))
+}
+
+fn has_samples(event: claxon::Result<Event>, samples: &[i32]) -> bool {
+    match event {
+        Ok(Event::Decoded(frame)) => frame.block.into_buffer().as_slice() == samples,
+        _ => false,
+    }
 }
 
 // Where the CRC-16 is 0 within a frame, the frame is answered at its last byte nevertheless.
 #[test]
-fn crc_of_zero_within_a_frame(rt: HostRuntime) -> Result<(), Fail> {
+fn crc_of_zero_within_a_frame(rt: HostRuntime) {
     let mut frames = FrameDecoder::new(0);
-    for held in 0..26usize {
-        let event = answer(&mut frames, rt.alloc(), &ZERO_WITHIN[..held], 0, false)?;
-        assert!(rt; matches!(event, Event::ReadOn(_)));
+    for held in 0..26 {
+        let event = answer(&mut frames, rt.alloc(), &ZERO_WITHIN[..held], 0, false);
+        assert!(rt; is_read_on(event), "{held}");
     }
-    match answer(&mut frames, rt.alloc(), &ZERO_WITHIN, 0, false)? {
-        Event::Decoded(frame) => {
-            let samples = frame.block.into_buffer();
-            assert!(rt; samples.as_slice() == SAMPLES.as_slice());
-        }
-        _ => assert!(rt; false),
-    }
-    Ok(())
+    let event = answer(&mut frames, rt.alloc(), &ZERO_WITHIN, 0, false);
+    assert!(rt; has_samples(event, &SAMPLES));
 }
 
-// Of a frame of 11 bytes that come one by one so many are tried as are twice the last ones, and all, where the CRC-16 is 0. Of others it
-// is known without a try that more are needed.
+// How many of the bytes of a frame that come one by one are there where it is tried: twice the last ones, and all, where the
+// CRC-16 is 0.
+const TRIED: [usize; 6] = [0, 1, 2, 4, 8, 11];
+
+// Whether the answer is right where so many are there, and it is known without a try that more are needed but at those.
+fn is_tried_or_known(frames: &mut FrameDecoder, alloc: Global, held: usize) -> bool {
+    let bytes = &STREAM[..held.min(11)];
+    let mut waiting = *frames;
+    let is_tried = waiting.waits(bytes, 0, false).is_none();
+    let event = answer(frames, alloc, bytes, 0, false);
+    is_tried == TRIED.contains(&held) && is_wanted(event, wanted_of(held))
+}
+
 #[test]
-fn waits(rt: HostRuntime) -> Result<(), Fail> {
+fn waits(rt: HostRuntime) {
     let mut frames = FrameDecoder::new(0);
-    for held in 0..12usize {
-        let bytes = &STREAM[..held];
-        let mut waiting = frames;
-        let needed = waiting.waits(bytes, 0, false);
-        let event = answer(&mut frames, rt.alloc(), bytes, 0, false)?;
-        let is_tried = [0, 1, 2, 4, 8, 11].contains(&held);
-        assert!(rt; needed.is_none() == is_tried);
-        assert!(rt; is_wanted(Ok(event), wanted_of(held)));
+    for held in 0..12 {
+        assert!(rt; is_tried_or_known(&mut frames, rt.alloc(), held), "{held}");
     }
-    Ok(())
 }
 
 fn wanted_of(held: usize) -> Wanted {
@@ -219,17 +264,18 @@ fn wanted_of(held: usize) -> Wanted {
 
 // Bytes that were made to cost time pass the budget by the 65th try, and then cost none until the stream ends.
 #[test]
-fn budget_is_passed(rt: HostRuntime) -> Result<(), Fail> {
+fn budget_is_passed(rt: HostRuntime) {
     let mut bytes = [0; 300];
     bytes[..11].copy_from_slice(&COSTLY);
     let mut frames = FrameDecoder::new(0);
-    for held in 0..300usize {
-        let event = answer(&mut frames, rt.alloc(), &bytes[..held], 0, false)?;
-        assert!(rt; matches!(event, Event::ReadOn(_)));
-        assert!(rt; frames.is_over_budget() == (held > 74));
+    for held in 0..300 {
+        let event = answer(&mut frames, rt.alloc(), &bytes[..held], 0, false);
+        let is_over_budget = held > 74;
+        assert!(rt;
+            is_read_on(event) && frames.is_over_budget() == is_over_budget,
+            "{held}"
+        );
     }
-    let event = answer(&mut frames, rt.alloc(), &bytes, 0, true)?;
-    assert!(rt; matches!(event, Event::Cut(0)));
-    assert!(rt; frames.position() == 300);
-    Ok(())
+    let event = answer(&mut frames, rt.alloc(), &bytes, 0, true);
+    assert!(rt; matches!(event, Ok(Event::Cut(0))) && frames.position() == 300);
 }
