@@ -1,9 +1,12 @@
 //! Parts of streams, by rows. Frames have one channel of 8 bits and 16 samples of one value but where a row says so, and were
 //! made by the definitions of RFC 9639, section 9.
+use claxon::input::ReadBytes;
 use claxon::metadata::StreamInfo;
 use claxon_recovery::{Cause, Damage, Part, Parts};
+use claxon_testing::answers::joined;
 use std::alloc::Global;
 use std::io::Cursor;
+use std::test::Fail;
 
 /// Two frames, one after another.
 #[rattlefmt::skip]
@@ -69,97 +72,129 @@ fn is_wanted(part: &Part, wanted: Wanted) -> bool {
     }
 }
 
-// Whether the bytes, of which the first is at position 100, have just these parts.
-fn has_parts(alloc: Global, bytes: &[u8], wanted: &[Wanted]) -> claxon::Result<bool> {
-    let mut parts = Parts::new(alloc, Cursor::new(bytes), INFO, 100)?;
-    for one in wanted {
-        match parts.next_part()? {
-            Some(part) if is_wanted(&part, *one) => continue,
-            _ => return Ok(false),
-        }
+// Whether the next part is this one.
+fn is_next<R: ReadBytes>(parts: &mut Parts<R>, wanted: Wanted) -> bool {
+    match parts.next_part() {
+        Ok(Some(part)) => is_wanted(&part, wanted),
+        _ => false,
     }
-    Ok(parts.next_part()?.is_none())
 }
 
-fn joined(alloc: Global, pieces: &[&[u8]]) -> claxon::Result<Vec<u8>> {
-    let mut bytes = Vec::new(alloc);
-    for piece in pieces {
-        bytes.extend_from_slice(piece)?;
-    }
-    Ok(bytes)
+/// Whether there is no next part.
+pub fn is_end<R: ReadBytes>(parts: &mut Parts<R>) -> bool {
+    matches!(parts.next_part(), Ok(None))
 }
+
+// Whether just these parts come.
+fn are_next<R: ReadBytes>(parts: &mut Parts<R>, wanted: &[Wanted]) -> bool {
+    let mut all = true;
+    for part in wanted {
+        all = all && is_next(parts, *part);
+    }
+    all && is_end(parts)
+}
+
+// Whether the bytes, of which the first is at this position, have just these parts.
+fn has_parts(alloc: Global, bytes: &[u8], start: u64, wanted: &[Wanted]) -> bool {
+    match Parts::new(alloc, Cursor::new(bytes), INFO, start) {
+        Ok(parts) => {
+            let mut parts = parts;
+            are_next(&mut parts, wanted)
+        }
+        Err(_) => false,
+    }
+}
+
+const FIRST: &[u8] = &[
+    0xff, 0xf8, 0x69, 0x02, 0x00, 0x0f, 0xb7, 0x00, 0x01, 0x7a, 0x27,
+];
+
+const SECOND: &[u8] = &[
+    0xff, 0xf8, 0x69, 0x02, 0x01, 0x0f, 0xa2, 0x00, 0x02, 0x7b, 0x51,
+];
+
+// The first frame with a wrong byte of the footer, without its last two bytes, and without its first two.
+const WRONG_FOOTER: &[u8] = &[
+    0xff, 0xf8, 0x69, 0x02, 0x00, 0x0f, 0xb7, 0x00, 0x01, 0x7a, 0x26,
+];
+
+const WITHOUT_FOOTER: &[u8] = &[0xff, 0xf8, 0x69, 0x02, 0x00, 0x0f, 0xb7, 0x00, 0x01];
+
+const WITHOUT_SYNC: &[u8] = &[0x69, 0x02, 0x00, 0x0f, 0xb7, 0x00, 0x01, 0x7a, 0x27];
+
+// The second frame without its last byte.
+const CUT: &[u8] = &[0xff, 0xf8, 0x69, 0x02, 0x01, 0x0f, 0xa2, 0x00, 0x02, 0x7b];
+
+// Pieces of a stream, and its parts.
+#[rattlefmt::skip]
+const ROWS: [(&[&[u8]], &[Wanted]); 9] = [
+    (&[], &[]),
+    (&[FIRST, SECOND], &[Wanted::Frame(100, 111, 1), Wanted::Frame(111, 122, 2)]),
+    // A wrong byte of the footer, of which just the frame is lost.
+    (&[WRONG_FOOTER, SECOND], &[Wanted::Fault(100, 111, false), Wanted::Frame(111, 122, 2)]),
+    // Bytes that were put in and cut out.
+    (&[FIRST, &[0; 5], SECOND], &[Wanted::Frame(100, 111, 1), Wanted::Fault(111, 116, true), Wanted::Frame(116, 127, 2)]),
+    (&[WITHOUT_FOOTER, SECOND], &[Wanted::Fault(100, 109, false), Wanted::Frame(109, 120, 2)]),
+    (&[WITHOUT_SYNC, SECOND], &[Wanted::Fault(100, 109, false), Wanted::Frame(109, 120, 2)]),
+    // A frame of another format.
+    (
+        &[FIRST, &OF_TWO_CHANNELS, SECOND],
+        &[Wanted::Frame(100, 111, 1), Wanted::OtherFormat(111, 124), Wanted::Frame(124, 135, 2)],
+    ),
+    // The stream ends within a frame, and with one byte more.
+    (&[FIRST, CUT], &[Wanted::Frame(100, 111, 1), Wanted::Cut(111, 121, false)]),
+    (&[FIRST, &[0]], &[Wanted::Frame(100, 111, 1), Wanted::Cut(111, 112, true)]),
+];
 
 #[test]
-fn parts_of_streams(rt: HostRuntime) -> claxon::Result<()> {
-    let first = &FRAMES[..11];
-    let second = &FRAMES[11..];
-    let mut wrong_footer = FRAMES;
-    wrong_footer[10] = 0x26;
-    #[rattlefmt::skip]
-    let rows: [(&[&[u8]], &[Wanted]); 9] = [
-        (&[], &[]),
-        (&[first, second], &[Wanted::Frame(100, 111, 1), Wanted::Frame(111, 122, 2)]),
-        // A wrong byte of the footer, of which just the frame is lost.
-        (&[&wrong_footer], &[Wanted::Fault(100, 111, false), Wanted::Frame(111, 122, 2)]),
-        // Bytes that were put in and cut out.
-        (&[first, &[0; 5], second], &[Wanted::Frame(100, 111, 1), Wanted::Fault(111, 116, true), Wanted::Frame(116, 127, 2)]),
-        (&[&first[..9], second], &[Wanted::Fault(100, 109, false), Wanted::Frame(109, 120, 2)]),
-        (&[&first[2..], second], &[Wanted::Fault(100, 109, false), Wanted::Frame(109, 120, 2)]),
-        // A frame of another format.
-        (
-            &[first, &OF_TWO_CHANNELS, second],
-            &[Wanted::Frame(100, 111, 1), Wanted::OtherFormat(111, 124), Wanted::Frame(124, 135, 2)],
-        ),
-        // The stream ends within a frame, and with one byte more.
-        (&[first, &second[..10]], &[Wanted::Frame(100, 111, 1), Wanted::Cut(111, 121, false)]),
-        (&[first, &[0]], &[Wanted::Frame(100, 111, 1), Wanted::Cut(111, 112, true)]),
-    ];
-    for (pieces, wanted) in &rows {
-        let bytes = joined(rt.alloc(), pieces)?;
-        assert!(rt; has_parts(rt.alloc(), bytes.as_slice(), wanted)?);
+fn parts_of_streams(rt: HostRuntime) -> Result<(), Fail> {
+    for (number, (pieces, wanted)) in ROWS.iter().enumerate() {
+        let bytes = joined(rt.alloc(), *pieces)?;
+        assert!(rt;
+            has_parts(rt.alloc(), bytes.as_slice(), 100, *wanted),
+            "{number}"
+        );
     }
     Ok(())
 }
+
+const PARTS_OF_LONG_DAMAGE: [Wanted; 5] = [
+    Wanted::Frame(100, 111, 1),
+    Wanted::Frame(111, 122, 2),
+    Wanted::Fault(122, 2_000_100, true),
+    Wanted::Frame(2_000_100, 2_000_111, 1),
+    Wanted::Frame(2_000_111, 2_000_122, 2),
+];
 
 // Frames are found after more bytes than are kept.
 #[test]
-fn long_damage(rt: HostRuntime) -> claxon::Result<()> {
-    let mut bytes = Vec::new(rt.alloc());
-    bytes.extend_from_slice(&FRAMES)?;
+fn long_damage(rt: HostRuntime) -> Result<(), Fail> {
+    let mut bytes = joined(rt.alloc(), &[&FRAMES])?;
     bytes.resize(2_000_000, 0)?;
     bytes.extend_from_slice(&FRAMES)?;
-    let wanted = [
-        Wanted::Frame(100, 111, 1),
-        Wanted::Frame(111, 122, 2),
-        Wanted::Fault(122, 2_000_100, true),
-        Wanted::Frame(2_000_100, 2_000_111, 1),
-        Wanted::Frame(2_000_111, 2_000_122, 2),
-    ];
-    assert!(rt; has_parts(rt.alloc(), bytes.as_slice(), &wanted)?);
+    assert!(rt; has_parts(rt.alloc(), bytes.as_slice(), 100, &PARTS_OF_LONG_DAMAGE));
     Ok(())
+}
+
+// Whether a frame and a cut one are found at this position.
+fn is_found_at(alloc: Global, start: u64) -> bool {
+    let (second, end) = (start.wrapping_add(11), start.wrapping_add(21));
+    let wanted = [
+        Wanted::Frame(start, second, 1),
+        Wanted::Cut(second, end, false),
+    ];
+    has_parts(alloc, &FRAMES[..21], start, &wanted)
 }
 
 // Positions are modulo 2^64.
 #[test]
-fn large_positions(rt: HostRuntime) -> claxon::Result<()> {
+fn large_positions(rt: HostRuntime) {
     for start in [
         0xffff_fff0u64,
         0x1_0000_0000,
         0xffff_ffff_ffff_fff0,
         u64::MAX,
     ] {
-        let mut parts = Parts::new(rt.alloc(), Cursor::new(&FRAMES[..21]), INFO, start)?;
-        let first = parts.next_part()?;
-        let second = start.wrapping_add(11);
-        assert!(rt;
-            matches!(&first, Some(part) if is_wanted(part, Wanted::Frame(start, second, 1)))
-        );
-        let damage = parts.next_part()?;
-        let end = start.wrapping_add(21);
-        assert!(rt;
-            matches!(&damage, Some(part) if is_wanted(part, Wanted::Cut(second, end, false)))
-        );
-        assert!(rt; parts.next_part()?.is_none());
+        assert!(rt; is_found_at(rt.alloc(), start), "{start}");
     }
-    Ok(())
 }
