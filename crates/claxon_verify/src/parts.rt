@@ -34,10 +34,10 @@ ghost use Rattle.claxon_verify.specs.Verify.{
 
 use crate::due::FoundFrame;
 use crate::report::{Notes, Report};
+use crate::report_of;
 use crate::scan::{Scan, Scanned};
 use crate::trailing::BytesAfter;
 use crate::walk::{ByteRange, Walk, too_many, with_frame};
-use crate::report_of;
 use claxon::input::ReadBytes;
 use claxon::metadata::StreamInfo;
 use claxon::running::RunningReader;

@@ -2,9 +2,8 @@
 use claxon::metadata::StreamInfo;
 use claxon_blocks::frames::FrameError;
 use claxon_blocks::md5_verdict::Md5Verdict;
-use std::alloc::{Allocator, Global};
-
 pub use claxon_heads::UnsupportedBlock;
+use std::alloc::{Allocator, Global};
 
 /// What was found in a stream.
 #[derive(Debug, Drop)]
