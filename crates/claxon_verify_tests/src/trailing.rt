@@ -53,7 +53,9 @@ const ENDS: [(&[u8], bool, &[u8], Trailing); 9] = [
 fn ended(alloc: Global, front: &[u8], has_frame: bool, back: &[u8]) -> Result<Vec<u8>, AllocError> {
     let mut bytes = in_order(alloc, FIXED, &[16, 16])?;
     // The streaminfo says 32 samples.
-    bytes[25] = 32;
+    if let Some(samples) = bytes.as_mut_slice().get_mut(25) {
+        *samples = 32;
+    }
     bytes.extend_from_slice(front)?;
     if has_frame {
         bytes.extend_from_slice(&frame(FIXED, OTHER_RATE, 2, 16))?;
