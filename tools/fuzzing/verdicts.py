@@ -274,9 +274,30 @@ def places_of(
     return [place.told() for place in places.ended]
 
 
+def has_small_frames(streaminfo: StreamInfo) -> bool:
+    """Whether a frame of the largest block has at most 512 KiB, though its samples are as they are.
+    In other files damage may be told to be longer."""
+    samples = streaminfo.max_block_size * streaminfo.channels
+    return samples * (streaminfo.bits_per_sample + 1) // 8 <= 512 << 10
+
+
 def are_same(place: Tuple[Any, ...], wanted: Tuple[int, int, int, int, str]) -> bool:
     """Whether a place is the one that is wanted, whatever its fault is called."""
     return place[:4] == wanted[:4] and wanted[4] in ("", place[4])
+
+
+def are_told(
+    streaminfo: StreamInfo,
+    found: Sequence[Tuple[Any, ...]],
+    left_out: int,
+    wanted: Sequence[Tuple[int, int, int, int, str]],
+) -> bool:
+    """Whether the places that are found are the first of those that are wanted, with as many left
+    out; of files with large frames whether the first begins where it has to."""
+    if wanted and not has_small_frames(streaminfo):
+        return bool(found) and (found[0][0], found[0][2]) == (wanted[0][0], wanted[0][2])
+    is_whole = len(wanted) == len(found) + left_out
+    return is_whole and all(map(are_same, found, wanted))
 
 
 def size_note(found: Sequence[Frame]) -> Optional[str]:
@@ -310,8 +331,7 @@ def difference(data: bytes, expected: Reading, found: Dict[str, Any]) -> Optiona
     wanted = places_of(data, head.end, streaminfo)
     keys = "start_byte", "end_byte", "start_sample", "end_sample", "what"
     places = [tuple(place[key] for key in keys) for place in found["places"]]
-    is_whole = len(wanted) == len(places) + found.get("left_out", 0)
-    if not is_whole or not all(map(are_same, places, wanted)):
+    if not are_told(streaminfo, places, found.get("left_out", 0), wanted):
         return "verify: places"
     if wanted:
         return "verify: right with a place" if verdict == "ok" else None
