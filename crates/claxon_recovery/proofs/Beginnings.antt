@@ -1,6 +1,6 @@
 -- What bytes begin with, by their header and the rest of a frame.
 use Rattle.std.proofs.Common.{◌≡◌, inl, inr, ℕ, ◌<◌, List, [], ◌++◌, length, Option, None, Some, refl, sym, subst, ◌∙◌, append-nil}
-use Rattle.std.specs.Prelude.{Ok, Err}
+use Rattle.std.specs.Prelude.{Ok, Err, IfSome}
 use Rattle.claxon.specs.Block.{BlockValue}
 use Rattle.claxon.specs.BlockInfo.{HeaderOf}
 use Rattle.claxon.specs.BlockInfos.{BlockInfo}
@@ -17,14 +17,14 @@ use Rattle.claxon.proofs.FormatLaws.{frames_unambiguous}
 use Rattle.claxon.proofs.FrameHeaders.{frame_has_header}
 use Rattle.claxon_seek.specs.AtStart.{BeginsWithLength, FaultIsTaken, FrameAtStart, HeaderAtStart, NoHeaderAtStart}
 use Rattle.claxon_seek.specs.Find.{WantedHeader, known_format}
-use Rattle.claxon_seek.proofs.Searches.{begins_longer, cut_by_io, frame_is_wanted, header_cut_by_io, header_longer, other_header}
+use Rattle.claxon_seek.proofs.Searches.{begins_longer, cut_by_io, frame_is_wanted, header_cut_by_io, header_longer, other_header, known_depth}
 use Rattle.claxon_recovery.specs.AtStart.{BeginsWithStreamFrame, EndsEarly, FrameStands, HasFaultOf, HasOtherHeader, HeaderStands, NoFrameWhateverFollows, StreamFrame}
 use Rattle.claxon_recovery.specs.declared.at_start.NoHeader.TheVariants.{CutHeader, Faulty}
 use Rattle.claxon_recovery.specs.declared.at_start.RestHere.TheVariants.{Broken, CutFrame}
 
-module _ (info : StreamInfo) where
+module _ (info : Option StreamInfo) where
   abbrev stream : Option StreamFormat
-  stream = known_format (Some info)
+  stream = known_format info
 
   -- ---- more bytes
 
@@ -37,18 +37,18 @@ module _ (info : StreamInfo) where
   pub frame_longer : (s more : List ℕ) → BeginsWithStreamFrame info s → BeginsWithStreamFrame info (s ++ more)
   frame_longer s more h =
       let w = h.1 in
-      (h.0, record { wanted = header_longer (Some info) None s more h.0 w.wanted; frame = (w.frame.0, begins_longer s more w.frame.1, w.frame.2) })
+      (h.0, record { wanted = header_longer info None s more h.0 w.wanted; frame = (w.frame.0, begins_longer s more w.frame.1, w.frame.2) })
 
   -- ---- no frame
 
   pub other_is_none : (block : BlockInfo) (s : List ℕ) → HasOtherHeader info block s → NoFrameWhateverFollows info s
-  other_is_none block s h more frame = other_header (Some info) None s block h.0 (λ is. h.1 is.0) more frame.0 frame.1.wanted
+  other_is_none block s h more frame = other_header info None s block h.0 (λ is. h.1 is.0) more frame.0 frame.1.wanted
 
-  pub fault_is_none : HasBitDepth info → (e : Error) (s : List ℕ) → HasFaultOf info e s → NoFrameWhateverFollows info s
+  pub fault_is_none : IfSome info HasBitDepth → (e : Error) (s : List ℕ) → HasFaultOf info e s → NoFrameWhateverFollows info s
   fault_is_none depth e s h more frame =
       let bad = begins_longer s more h.2 in
       let code = frame.1.frame.1 in
-      (frames_unambiguous stream depth).no_fault frame.1.frame.0 h.0 code.0 bad.0 code.1 bad.1 code.2 bad.2 (sym code.3 ∙ bad.3)
+      (frames_unambiguous stream (known_depth info depth)).no_fault frame.1.frame.0 h.0 code.0 bad.0 code.1 bad.1 code.2 bad.2 (sym code.3 ∙ bad.3)
 
   pub shown_is_none : (s : List ℕ) → NoHeaderAtStart s → NoFrameWhateverFollows info s
   shown_is_none s none more frame = none more stream frame.0 frame.1.wanted.header
@@ -68,7 +68,7 @@ module _ (info : StreamInfo) where
   few_bytes s h = inl (h.eof.0 refl)
 
   pub header_cut : (s : List ℕ) (cause : _) → HeaderAtStart stream s (Err (IoError cause)) → HeaderStands info s (Err CutHeader)
-  header_cut s cause h = inr (header_cut_by_io (Some info) None s cause h).1
+  header_cut s cause h = inr (header_cut_by_io info None s cause h).1
 
   -- the fault of a header is one of its frame
   pub fault_of_header : (e : Error) (s : List ℕ) → HeaderStands info s (Err (Faulty e)) → HasFaultOf info e s
@@ -80,17 +80,17 @@ module _ (info : StreamInfo) where
   rest_fault s len e t other no_io = elim t [ inl m ↦ absurd (other m) | inr (inl i) ↦ absurd (no_io i) | inr (inr f) ↦ f ]
 
   pub rest_cut : (s : List ℕ) (taken : ℕ) (cause : _) → FrameAtStart stream s (Err (IoError cause)) taken → FrameStands info s (Ok CutFrame)
-  rest_cut s taken cause h = (cut_by_io (Some info) s taken cause h).1
+  rest_cut s taken cause h = (cut_by_io info s taken cause h).1
 
   pub fault_of_rest : (e : Error) (s : List ℕ) (len : ℕ) → FrameStands info s (Ok (Broken len e)) → HasFaultOf info e s
   fault_of_rest e s len h = (h.0, h.1, (h.2.0, h.2.1, h.2.2, h.2.3))
 
   -- ---- a frame
 
-  pub whole_is_frame : (s : List ℕ) (header : BlockInfo) (block : BlockValue) (len : ℕ) → WantedHeader (Some info) None s header → BeginsWithLength (Frame stream (block_view block)) s len → BeginsWithStreamFrame info s
-  whole_is_frame s header block len wanted h = (header, frame_is_wanted (Some info) None s header wanted (record { block = block_view block; frame = (h.0, h.1, h.2, h.3) }))
+  pub whole_is_frame : (s : List ℕ) (header : BlockInfo) (block : BlockValue) (len : ℕ) → WantedHeader info None s header → BeginsWithLength (Frame stream (block_view block)) s len → BeginsWithStreamFrame info s
+  whole_is_frame s header block len wanted h = (header, frame_is_wanted info None s header wanted (record { block = block_view block; frame = (h.0, h.1, h.2, h.3) }))
 
-  pub whole_with_header : (s : List ℕ) (header : BlockInfo) (block : BlockValue) (len : ℕ) → WantedHeader (Some info) None s header → BeginsWithLength (Frame stream (block_view block)) s len
+  pub whole_with_header : (s : List ℕ) (header : BlockInfo) (block : BlockValue) (len : ℕ) → WantedHeader info None s header → BeginsWithLength (Frame stream (block_view block)) s len
       → BeginsWithLength (StreamFrame info (record { info = header; block = block })) s len
   whole_with_header s header block len wanted (t, rest, code, joined, count) =
       let k = frame_has_header stream (block_view block) t [] code in

@@ -1,6 +1,6 @@
 -- What tries are charged, and which positions are counted as unsearched.
-use Rattle.std.proofs.Common.{◌≡◌, inr, ℕ, ◌+◌, ◌-◌, ◌%◌, ◌^◌, ◌<◌, Bool, true, false, List, refl, sym, ap, subst, arith}
-use Rattle.std.specs.Prelude.{Ok, if◌then◌else◌}
+use Rattle.std.proofs.Common.{◌≡◌, inr, ℕ, ◌+◌, ◌-◌, ◌%◌, ◌^◌, ◌<◌, Bool, true, false, List, refl, sym, ap, subst, arith, Option}
+use Rattle.std.specs.Prelude.{Ok, if◌then◌else◌, IfSome}
 use Rattle.claxon.specs.BlockInfos.{BlockInfo}
 use Rattle.claxon.specs.ShownHead.{HasBitDepth}
 use Rattle.claxon.specs.StreamInfos.{StreamInfo}
@@ -48,7 +48,7 @@ tried_counts (Whole len decoded) old new h = h
 tried_counts (Broken len e) old new h = h
 tried_counts CutFrame old new h = h
 
-pub tried_there : (info : StreamInfo) → HasBitDepth info → (s : List ℕ) (wasted : ℕ) (header : BlockInfo) (rest : RestHere) → WantedHeader (Some info) None s header → FrameStands info s (Ok rest) → TriedIsThere info s wasted (Ok (tried_of rest))
+pub tried_there : (info : Option StreamInfo) → IfSome info HasBitDepth → (s : List ℕ) (wasted : ℕ) (header : BlockInfo) (rest : RestHere) → WantedHeader info None s header → FrameStands info s (Ok rest) → TriedIsThere info s wasted (Ok (tried_of rest))
 tried_there info depth s wasted header (Whole len block) wanted stands = whole_is_frame info s header block len wanted stands
 tried_there info depth s wasted header (Broken len e) wanted stands = fault_is_none info depth e s (fault_of_rest info e s len stands)
 tried_there info depth s wasted header CutFrame wanted stands = inr (inr stands)
@@ -56,13 +56,13 @@ tried_there info depth s wasted header CutFrame wanted stands = inr (inr stands)
 -- ---- positions that aren't searched
 
 -- bytes that tell the cause are searched
-pub cause_is_searched : (info : StreamInfo) (cause : Cause) (s : List ℕ) → HasCause info cause s → step_unsearched (first_step cause) 0 ≡ 0
+pub cause_is_searched : (info : Option StreamInfo) (cause : Cause) (s : List ℕ) → HasCause info cause s → step_unsearched (first_step cause) 0 ≡ 0
 cause_is_searched info (Fault e) s h = refl
 cause_is_searched info (OtherFormat block) s h = refl
 cause_is_searched info Cut s h = absurd h
 cause_is_searched info TooLong s h = absurd h
 
-pub counts_cause : (info : StreamInfo) (cause : Cause) (s : List ℕ) (a b : ℕ) → HasCause info cause s → b % 2 ^ 64 ≡ (a + 0) % 2 ^ 64 → b % 2 ^ 64 ≡ (a + step_unsearched (first_step cause) 0) % 2 ^ 64
+pub counts_cause : (info : Option StreamInfo) (cause : Cause) (s : List ℕ) (a b : ℕ) → HasCause info cause s → b % 2 ^ 64 ≡ (a + 0) % 2 ^ 64 → b % 2 ^ 64 ≡ (a + step_unsearched (first_step cause) 0) % 2 ^ 64
 counts_cause info cause s a b h counts = subst (λ (n : ℕ). b % 2 ^ 64 ≡ (a + n) % 2 ^ 64) (sym (cause_is_searched info cause s h)) counts
 
 pub more_unsearched : (step : Step) (n : ℕ) → step_unsearched step n ≡ n + step_unsearched step 0

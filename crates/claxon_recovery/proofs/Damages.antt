@@ -1,6 +1,6 @@
 -- Damage, one step after another.
 use Rattle.std.proofs.Common.{◌≡◌, ◌⊎◌, inl, inr, ℕ, ◌+◌, ◌%◌, ◌^◌, ◌≤◌, false, List, [], ◌++◌, length, drop, take, refl, sym, ap, subst, ◌∙◌, append_assoc, append-nil, arith, length-append}
-use Rattle.std.specs.Prelude.{Ok, Err, IsTrue}
+use Rattle.std.specs.Prelude.{Ok, Err, IsTrue, Option, IfSome}
 use Rattle.std.proofs.lemmas.List.{drop_at, length-take-le, take-append-drop}
 use Rattle.claxon.specs.Errors.{Error}
 use Rattle.claxon.specs.Error.{is_out_of_memory}
@@ -10,7 +10,7 @@ use Rattle.claxon.specs.ShownHead.{HasBitDepth}
 use Rattle.claxon.specs.Source.{Source}
 use Rattle.claxon.specs.StreamInfos.{StreamInfo}
 use Rattle.claxon_recovery.specs.AtStart.{BeginsWithStreamFrame}
-use Rattle.claxon_recovery.specs.Parts.{DamageGives, IsCause, IsStep, NoFrames, PartFails, PartStops, PassesBytes, SourceIsKnown, Stays, TakesStep, parts_info, parts_pending, parts_position, parts_source, unread}
+use Rattle.claxon_recovery.specs.Parts.{DamageGives, IsCause, IsStep, NoFrames, PartFails, PartStops, PassesBytes, SourceIsKnown, Stays, TakesStep, parts_known, parts_pending, parts_position, parts_source, unread}
 use Rattle.claxon_recovery.specs.Passed.{IsOfBytes}
 use Rattle.claxon_recovery.specs.Steps.{first_step, step_count, step_unsearched}
 use Rattle.claxon_recovery.specs.Window.{Reads, bytes_left}
@@ -54,17 +54,17 @@ module _ {R : Type 0} (source : R → Source ℕ) where
 
   -- It is known what remains, and no frame begins there for this cause.
   abbrev pub Told : Cause → Parts R → Type 0
-  Told cause p = SourceIsKnown source p × IsCause (parts_info p) cause (unread source p)
+  Told cause p = SourceIsKnown source p × IsCause (parts_known p) cause (unread source p)
 
   -- These bytes were passed, at so many positions unsearched.
   pub record SoFar (cause : Cause) (old now : Parts R) (passed : Passed) (front : List ℕ) (unsearched : ℕ) : Type 0 where
     pub more : List ℕ
     pub reads : Reads (source (parts_source old)) (source (parts_source now)) more
     pub position_is : parts_position now % 2 ^ 64 ≡ (parts_position old + length front) % 2 ^ 64
-    pub info_is : parts_info now ≡ parts_info old
+    pub known_is : parts_known now ≡ parts_known old
     pub kept : IsOfBytes front unsearched passed
     pub joined : known_of old → unread source old ≡ front ++ unread source now
-    pub none : Told cause old → NoFrames (parts_info old) (unread source old) (length front) unsearched
+    pub none : Told cause old → NoFrames (parts_known old) (unread source old) (length front) unsearched
 
   -- They are more than so many.
   pub record Passes (cause : Cause) (old now : Parts R) (passed : Passed) (count : ℕ) : Type 0 where
@@ -79,7 +79,7 @@ module _ {R : Type 0} (source : R → Source ℕ) where
       more = [];
       reads = reads_none (source (parts_source old));
       position_is = omega arith;
-      info_is = refl;
+      known_is = refl;
       kept = kept;
       joined = λ known. refl;
       none = λ known. refl;
@@ -93,7 +93,7 @@ module _ {R : Type 0} (source : R → Source ℕ) where
       position_of : (k at n pa pb pc m : ℕ) → m ≡ n + k → pb ≡ pa → pa % 2 ^ 64 ≡ (at + n) % 2 ^ 64 → pc ≡ (pb + k) % 2 ^ 64 → pc % 2 ^ 64 ≡ (at + m) % 2 ^ 64
       position_of k at n pa pb pc m whole same e f = omega (arith, whole, same, e, f)
 
-      pub stepped : SoFar cause old a passed front unsearched → Stays source a b → step_count step ≤ length (parts_pending b) → (Told cause old → IsStep (parts_info a) (unread source b) step) → PassesBytes (step_count step) b c → parts_info c ≡ parts_info a → TakesStep (take (step_count step) (parts_pending b)) step passed after
+      pub stepped : SoFar cause old a passed front unsearched → Stays source a b → step_count step ≤ length (parts_pending b) → (Told cause old → IsStep (parts_known a) (unread source b) step) → PassesBytes (step_count step) b c → parts_known c ≡ parts_known a → TakesStep (take (step_count step) (parts_pending b)) step passed after
           → SoFar cause old c after (front ++ take (step_count step) (parts_pending b)) (step_unsearched step unsearched)
       stepped h stays within is passes same takes =
           let k = step_count step in
@@ -104,18 +104,18 @@ module _ {R : Type 0} (source : R → Source ℕ) where
             more = h.more ++ stays.more;
             reads = passed_reads k old b c (h.more ++ stays.more) (reads_both h.reads stays.reads) passes;
             position_is = position_of k (parts_position old) (length front) (parts_position a) (parts_position b) (parts_position c) (length (front ++ t)) whole stays.position_is h.position_is passes.position_is;
-            info_is = same ∙ h.info_is;
+            known_is = same ∙ h.known_is;
             kept = takes front unsearched h.kept;
             joined = λ known. h.joined known ∙ ap (λ (l : List ℕ). front ++ l) (stays_unread a b stays (h.reads.known known).known ∙ passed_unread k b c passes within) ∙ sym (append_assoc front t (unread source c));
             none = λ told.
                 let ka = (h.reads.known told.0).known in
                 let rest : drop (length front) (unread source old) ≡ unread source b = ap (drop (length front)) (h.joined told.0) ∙ drop_at front (unread source a) (length front) refl ∙ stays_unread a b stays ka in
-                let there = subst (λ (s : List ℕ). IsStep (parts_info old) s step) (sym rest) (subst (λ (i : StreamInfo). IsStep i (unread source b) step) h.info_is (is told)) in
-                subst (λ (n : ℕ). NoFrames (parts_info old) (unread source old) n (step_unsearched step unsearched)) (sym whole) (step_taken (parts_info old) (unread source old) (length front) unsearched step (h.none told) there);
+                let there = subst (λ (s : List ℕ). IsStep (parts_known old) s step) (sym rest) (subst (λ (i : Option StreamInfo). IsStep i (unread source b) step) h.known_is (is told)) in
+                subst (λ (n : ℕ). NoFrames (parts_known old) (unread source old) n (step_unsearched step unsearched)) (sym whole) (step_taken (parts_known old) (unread source old) (length front) unsearched step (h.none told) there);
           }
 
       -- the frame or the end after it
-      pub next_after : Stays source a b → step_count step ≤ length (parts_pending b) → (known_of a → IsStep (parts_info a) (unread source b) step) → PassesBytes (step_count step) b c → IsTrue step.is_last → known_of a → (unread source c ≡ []) ⊎ BeginsWithStreamFrame (parts_info a) (unread source c)
+      pub next_after : Stays source a b → step_count step ≤ length (parts_pending b) → (known_of a → IsStep (parts_known a) (unread source b) step) → PassesBytes (step_count step) b c → IsTrue step.is_last → known_of a → (unread source c ≡ []) ⊎ BeginsWithStreamFrame (parts_known a) (unread source c)
       next_after stays within is passes last known =
           let k = step_count step in
           let t = take k (parts_pending b) in
@@ -123,28 +123,28 @@ module _ {R : Type 0} (source : R → Source ℕ) where
           let e : drop k (unread source b) ≡ unread source c = ap (drop k) (passed_unread k b c passes within) ∙ drop_at t (unread source c) k size in
           elim ((is known).last last) [
             | inl none ↦ inl (sym e ∙ none)
-            | inr frame ↦ inr (subst (BeginsWithStreamFrame (parts_info a)) e frame)
+            | inr frame ↦ inr (subst (BeginsWithStreamFrame (parts_known a)) e frame)
           ]
 
     -- the first step
     module _ (c : Parts R) (passed after : Passed) (step : Step) (is : step ≡ first_step cause) (some : 1 ≤ length (parts_pending old)) where
       one : step_count step ≡ 1
-      one = ap step_count is ∙ one_first (parts_info old) cause
+      one = ap step_count is ∙ one_first (parts_known old) cause
 
       pub within_first : step_count step ≤ length (parts_pending old)
       within_first = omega (arith, one, some)
 
-      pub first_passed : HasBitDepth (parts_info old) → IsOfBytes [] 0 passed → PassesBytes (step_count step) old c → parts_info c ≡ parts_info old → TakesStep (take (step_count step) (parts_pending old)) step passed after → Passes cause old c after 0
+      pub first_passed : IfSome (parts_known old) HasBitDepth → IsOfBytes [] 0 passed → PassesBytes (step_count step) old c → parts_known c ≡ parts_known old → TakesStep (take (step_count step) (parts_pending old)) step passed after → Passes cause old c after 0
       first_passed depth kept passes same takes = record {
         front = take (step_count step) (parts_pending old);
         unsearched = step_unsearched step 0;
-        so_far = stepped old old c passed after [] 0 step (none_passed passed kept) no_more within_first (λ told. subst (IsStep (parts_info old) (unread source old)) (sym is) (cause_is_none (parts_info old) depth cause (unread source old) told.1)) passes same takes;
+        so_far = stepped old old c passed after [] 0 step (none_passed passed kept) no_more within_first (λ told. subst (IsStep (parts_known old) (unread source old)) (sym is) (cause_is_none (parts_known old) depth cause (unread source old) told.1)) passes same takes;
         long = (let n = length-take-le (step_count step) (parts_pending old) within_first in omega (arith, n, one));
       }
 
     -- one step more
     module _ (a b c : Parts R) (passed after : Passed) (n : ℕ) (step : Step) (h : Passes cause old a passed n) (stays : Stays source a b) (within : step_count step ≤ length (parts_pending b))
-        (is : known_of a → IsStep (parts_info a) (unread source b) step) (passes : PassesBytes (step_count step) b c) (same : parts_info c ≡ parts_info a) (takes : TakesStep (take (step_count step) (parts_pending b)) step passed after) where
+        (is : known_of a → IsStep (parts_known a) (unread source b) step) (passes : PassesBytes (step_count step) b c) (same : parts_known c ≡ parts_known a) (takes : TakesStep (take (step_count step) (parts_pending b)) step passed after) where
       abbrev more : List ℕ
       more = take (step_count step) (parts_pending b)
 
@@ -172,7 +172,7 @@ module _ {R : Type 0} (source : R → Source ℕ) where
                 cause = is_cause;
                 unsearched = step_unsearched step h.unsearched;
                 none = f.none (known, is_cause);
-                next = subst (λ (i : StreamInfo). (unread source c ≡ []) ⊎ BeginsWithStreamFrame i (unread source c)) h.so_far.info_is (next_after a b c passed after h.front h.unsearched step stays within is passes last (h.so_far.reads.known known).known);
+                next = subst (λ (i : Option StreamInfo). (unread source c ≡ []) ⊎ BeginsWithStreamFrame i (unread source c)) h.so_far.known_is (next_after a b c passed after h.front h.unsearched step stays within is passes last (h.so_far.reads.known known).known);
                 start_is = refl;
                 end_is = (let e = f.position_is in let p = passes.position_is in omega (arith, e, p));
                 unsearched_is = f.kept.count;

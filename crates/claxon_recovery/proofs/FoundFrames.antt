@@ -1,4 +1,5 @@
 -- The frame that comes next is the part.
+use Rattle.std.specs.Prelude.{IfSome}
 use Rattle.std.proofs.Common.{◌≡◌, inl, ℕ, ◌<◌, ◌≤◌, List, [], ◌++◌, length, drop, take, Option, Some, None, refl, sym, ap, subst, ◌∙◌, arith}
 use Rattle.std.proofs.lemmas.List.{append_cancel_left, take-append-drop, take-append-le, take_at}
 use Rattle.claxon.specs.BlockInfo.{HeaderOf}
@@ -10,7 +11,7 @@ use Rattle.claxon.specs.StreamInfos.{StreamInfo}
 use Rattle.claxon.proofs.BlockInfo.{header_has_two_bytes}
 use Rattle.claxon.proofs.DecodedFrames.{decoded_unambiguous}
 use Rattle.claxon_seek.specs.Find.{known_format}
-use Rattle.claxon_seek.proofs.Searches.{begins_longer, frame_is_wanted}
+use Rattle.claxon_seek.proofs.Searches.{begins_longer, frame_is_wanted, known_depth}
 use Rattle.claxon_recovery.specs.AtStart.{BeginsWithStreamFrame, NoFrameWhateverFollows, StreamFrameCode}
 use Rattle.claxon_recovery.specs.Kept.{most_kept}
 use Rattle.claxon_recovery.specs.Parts.{IsCause, IsFrameOf, IsPart}
@@ -20,14 +21,14 @@ use Rattle.claxon_recovery.specs.declared.part.Part.{Part}
 use Rattle.claxon_recovery.specs.declared.part.Part.TheVariants.{Frame as FramePart, Damage as DamagePart}
 use Rattle.claxon_recovery.proofs.Beginnings.{early_is_none, fault_is_none, frame_longer, other_is_none}
 
-module _ (info : StreamInfo) (value : FrameValue) (t : List ℕ) (code : StreamFrameCode info value t) where
+module _ (info : Option StreamInfo) (value : FrameValue) (t : List ℕ) (code : StreamFrameCode info value t) where
   abbrev stream : Option StreamFormat
-  stream = known_format (Some info)
+  stream = known_format info
 
   begins : (s rest : List ℕ) → s ≡ t ++ rest → BeginsWithStreamFrame info s
   begins s rest e =
       let header : BeginsWith (HeaderOf stream value.info) s = subst (BeginsWith (HeaderOf stream value.info)) (sym e) (begins_longer t rest code.0.1) in
-      (value.info, frame_is_wanted (Some info) None s value.info (record { format = code.1; holds = tt; header = header }) (record { block = value.block; frame = (t, rest, code.0.0, e) }))
+      (value.info, frame_is_wanted info None s value.info (record { format = code.1; holds = tt; header = header }) (record { block = value.block; frame = (t, rest, code.0.0, e) }))
 
   pub frame_begins : (s rest : List ℕ) → s ≡ t ++ rest → BeginsWithStreamFrame info s
   frame_begins s rest e = begins s rest e
@@ -42,7 +43,7 @@ module _ (info : StreamInfo) (value : FrameValue) (t : List ℕ) (code : StreamF
       let same : take n front ≡ t = sym (take-append-le n front more le) ∙ ap (take n) e ∙ take_at t rest n refl in
       begins front (drop n front) (sym (take-append-drop n front) ∙ ap (λ (l : List ℕ). l ++ drop n front) same)
 
-  module _ (depth : HasBitDepth info) (s rest : List ℕ) (e : s ≡ t ++ rest) (few : length t ≤ most_kept info) where
+  module _ (depth : IfSome info HasBitDepth) (s rest : List ℕ) (e : s ≡ t ++ rest) (few : length t ≤ most_kept info) where
     whatever : NoFrameWhateverFollows info s → ⊥
     whatever none = none [] (frame_longer info s [] (begins s rest e))
 
@@ -56,5 +57,5 @@ module _ (info : StreamInfo) (value : FrameValue) (t : List ℕ) (code : StreamF
     frame_is_part start m None is = absurd (early_is_none info s (inl (let n = ap length is.0 in omega (arith, n))) (begins s rest e))
     frame_is_part start m (Some (DamagePart damage)) is = absurd (no_cause damage.cause is.cause)
     frame_is_part start m (Some (FramePart there)) is =
-        let same = (decoded_unambiguous stream depth).one_code (decoded_view there.frame) value is.bytes t m rest is.frame.0 code.0 (sym is.joined ∙ e) in
+        let same = (decoded_unambiguous stream (known_depth info depth)).one_code (decoded_view there.frame) value is.bytes t m rest is.frame.0 code.0 (sym is.joined ∙ e) in
         (same.0, append_cancel_left t m rest (ap (λ (l : List ℕ). l ++ m) (sym same.1) ∙ sym is.joined ∙ e))

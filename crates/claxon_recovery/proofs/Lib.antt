@@ -20,3 +20,5 @@ pub mod Charges
 pub mod Kept
 -- Whole runs.
 pub mod Runs
+-- The next frame, after any damage.
+pub mod NextFrames

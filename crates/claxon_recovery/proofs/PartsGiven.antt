@@ -1,6 +1,6 @@
 -- A part of a stream, and what is left after it.
 use Rattle.std.proofs.Common.{◌≡◌, inl, inr, ℕ, ◌^◌, ◌≤◌, List, [], ◌++◌, length, take, Some, None, refl, sym, ap, subst, ◌∙◌, arith, length-append}
-use Rattle.std.specs.Prelude.{Ok, Err, Option, Result}
+use Rattle.std.specs.Prelude.{Ok, Err, Option, Result, IfSome}
 use Rattle.std.specs.Global.{Global}
 use Rattle.std.proofs.lemmas.List.{take_at}
 use Rattle.claxon.specs.DecodedFrames.{DecodedFrame}
@@ -10,7 +10,7 @@ use Rattle.claxon.specs.Source.{Source}
 use Rattle.claxon.specs.StreamInfos.{StreamInfo}
 use Rattle.claxon_seek.specs.AtStart.{BeginsWithLength}
 use Rattle.claxon_recovery.specs.AtStart.{StreamFrame}
-use Rattle.claxon_recovery.specs.Parts.{DamageGives, FrameIsFound, IsCause, IsDamage, PartErrIsExcused, PartGives, PartIsThere, PartStops, PassesBytes, SourceIsKnown, Stays, parts_info, parts_pending, parts_position, parts_source, unread}
+use Rattle.claxon_recovery.specs.Parts.{DamageGives, FrameIsFound, IsCause, IsDamage, PartErrIsExcused, PartGives, PartIsThere, PartStops, PassesBytes, SourceIsKnown, Stays, parts_known, parts_pending, parts_position, parts_source, unread}
 use Rattle.claxon_recovery.specs.Window.{NothingIsLeft, bytes_left}
 use Rattle.claxon_recovery.specs.declared.part.Cause.{Cause}
 use Rattle.claxon_recovery.specs.declared.part.Damage.{Damage}
@@ -34,7 +34,7 @@ module _ {R : Type 0} (source : R → Source ℕ) (old a : Parts R) (stays : Sta
     stays.position_is,
   )
 
-  module _ (len : ℕ) (frame : DecodedFrame Global) (there : BeginsWithLength (StreamFrame (parts_info old) frame) (parts_pending a) len) where
+  module _ (len : ℕ) (frame : DecodedFrame Global) (there : BeginsWithLength (StreamFrame (parts_known old) frame) (parts_pending a) len) where
     pub frame_within : len ≤ length (parts_pending a)
     frame_within = let n = ap length there.3 in omega (arith, n, there.4, length-append there.0 there.1)
 
@@ -56,17 +56,17 @@ module _ {R : Type 0} (source : R → Source ℕ) (old a : Parts R) (stays : Sta
           refl,
         )
 
-  module _ (b : Parts R) (cause : Cause) (same : parts_info a ≡ parts_info old) (is : SourceIsKnown source old → IsCause (parts_info old) cause (unread source a)) where
+  module _ (b : Parts R) (cause : Cause) (same : parts_known a ≡ parts_known old) (is : SourceIsKnown source old → IsCause (parts_known old) cause (unread source a)) where
     pub damage_part : (damage : Damage) → DamageGives source a b cause (Ok damage) → PartGives source old b (Ok (Some (DamagePart damage)))
     damage_part damage gives = (
       record {
         more = stays.more ++ gives.0.more;
         reads = reads_both stays.reads gives.0.reads;
         is = λ known.
-            let h = gives.0.is (stays.reads.known known).known (subst (λ (i : StreamInfo). IsCause i cause (unread source a)) (sym same) (is known)) in
-            subst (λ (s : List ℕ). IsDamage (parts_info old) (parts_position old) s (unread source b) damage) (sym (stays_unread source old a stays known))
-            (subst (λ (n : ℕ). IsDamage (parts_info old) n (unread source a) (unread source b) damage) stays.position_is
-            (subst (λ (i : StreamInfo). IsDamage i (parts_position a) (unread source a) (unread source b) damage) same h));
+            let h = gives.0.is (stays.reads.known known).known (subst (λ (i : Option StreamInfo). IsCause i cause (unread source a)) (sym same) (is known)) in
+            subst (λ (s : List ℕ). IsDamage (parts_known old) (parts_position old) s (unread source b) damage) (sym (stays_unread source old a stays known))
+            (subst (λ (n : ℕ). IsDamage (parts_known old) n (unread source a) (unread source b) damage) stays.position_is
+            (subst (λ (i : Option StreamInfo). IsDamage i (parts_position a) (unread source a) (unread source b) damage) same h));
       },
       gives.1,
     )
@@ -87,6 +87,6 @@ module _ {R : Type 0} (source : R → Source ℕ) (old : Parts R) where
   given_excused b (Ok found) h = tt
   given_excused b (Err e) h = h
 
-  pub given_found : HasBitDepth (parts_info old) → (b : Parts R) (r : Result (Option Part) Error) → PartGives source old b r → FrameIsFound source old b r
-  given_found depth b (Ok found) h = λ known value t rest code e few. frame_is_part (parts_info old) value t code depth (unread source old) rest e few (parts_position old) (unread source b) found (h.0.is known)
+  pub given_found : IfSome (parts_known old) HasBitDepth → (b : Parts R) (r : Result (Option Part) Error) → PartGives source old b r → FrameIsFound source old b r
+  given_found depth b (Ok found) h = λ known value t rest code e few. frame_is_part (parts_known old) value t code depth (unread source old) rest e few (parts_position old) (unread source b) found (h.0.is known)
   given_found depth b (Err e) h = tt

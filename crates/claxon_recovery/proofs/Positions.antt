@@ -1,6 +1,6 @@
 -- Positions at which no frame begins.
 use Rattle.std.proofs.Common.{◌≡◌, inl, inr, ℕ, zero, suc, ◌+◌, ◌<◌, ◌≤◌, Bool, true, false, List, [], ◌++◌, length, drop, Some, None, refl, sym, ap, subst, ◌∙◌, append-nil, arith, length-append}
-use Rattle.std.specs.Prelude.{IsTrue, if◌then◌else◌}
+use Rattle.std.specs.Prelude.{IsTrue, if◌then◌else◌, Option, IfSome}
 use Rattle.std.proofs.lemmas.Bool.{cases_lt}
 use Rattle.std.proofs.lemmas.List.{drop-append-le, drop-drop, drop_all, length-drop}
 use Rattle.claxon.specs.ShownHead.{HasBitDepth}
@@ -16,7 +16,7 @@ use Rattle.claxon_recovery.specs.declared.parts.Step.{Step}
 use Rattle.claxon_seek.proofs.Searches.{header_longer}
 use Rattle.claxon_recovery.proofs.Beginnings.{early_is_none, fault_is_none, frame_longer, other_is_none}
 
-module _ (info : StreamInfo) where
+module _ (info : Option StreamInfo) where
   -- ---- a search
 
   pub none_so_far : (bytes : List ℕ) → NoneBefore info bytes 0
@@ -61,7 +61,7 @@ module _ (info : StreamInfo) where
       }
 
       pub step_over_header : BeginsWithStreamHeader info (drop to bytes) → IsStep info all (record { searched = to; passes_next = true; is_last = false })
-      step_over_header header = passing (inl (header.0, header_longer (Some info) None (drop to bytes) left header.0 header.1))
+      step_over_header header = passing (inl (header.0, header_longer info None (drop to bytes) left header.0 header.1))
 
       pub step_over_long : EndsEarly info (drop to bytes) → most_kept info ≤ length (drop to bytes) → IsStep info all (record { searched = to; passes_next = true; is_last = false })
       step_over_long ends long = passing (inr (record { front = drop to bytes; rest = left; joined = refl; long = long; ends = ends }))
@@ -128,7 +128,7 @@ module _ (info : StreamInfo) where
   one_first Cut = refl
   one_first TooLong = refl
 
-  pub cause_is_none : HasBitDepth info → (cause : Cause) (s : List ℕ) → IsCause info cause s → IsStep info s (first_step cause)
+  pub cause_is_none : IfSome info HasBitDepth → (cause : Cause) (s : List ℕ) → IsCause info cause s → IsStep info s (first_step cause)
   cause_is_none depth cause s is = go cause is
     where
       one : (BeginsWithStreamFrame info s → ⊥) → IsStep info s (record { searched = 1; passes_next = false; is_last = false })

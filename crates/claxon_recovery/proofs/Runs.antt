@@ -1,4 +1,6 @@
 -- Whole runs.
+use Rattle.std.specs.Prelude.{Option, IfSome}
+use Rattle.claxon_seek.proofs.Searches.{known_depth}
 use Rattle.std.proofs.Common.{◌≡◌, inl, inr, ℕ, zero, suc, ◌+◌, ◌%◌, ◌^◌, ◌<◌, ◌≤◌, List, [], ◌∷◌, ◌++◌, length, drop, Some, refl, sym, ap, subst, ◌∙◌, arith, length-append}
 use Rattle.std.proofs.lemmas.Bool.{cases_lt}
 use Rattle.std.proofs.lemmas.List.{append_cancel_left, drop_at}
@@ -18,7 +20,7 @@ use Rattle.claxon_recovery.proofs.FoundFrames.{frame_begins, frame_has_bytes}
 
 -- ---- positions
 
-pub parts_join : (info : StreamInfo) (start : ℕ) (s : List ℕ) (parts : List Part) → start < 2 ^ 64 → AreParts info start s parts → AreJoined start parts ((start + length s) % 2 ^ 64)
+pub parts_join : (info : Option StreamInfo) (start : ℕ) (s : List ℕ) (parts : List Part) → start < 2 ^ 64 → AreParts info start s parts → AreJoined start parts ((start + length s) % 2 ^ 64)
 parts_join info start s [] small is = (let n = ap length is in omega (arith, n, small))
 parts_join info start s (FramePart there ∷ parts) small (m, is, rest) =
     let n : length s ≡ length is.bytes + length m = ap length is.joined ∙ length-append is.bytes m in
@@ -29,7 +31,7 @@ parts_join info start s (DamagePart damage ∷ parts) small (m, is, rest) =
     let same : (damage.end + length m) % 2 ^ 64 ≡ (start + length s) % 2 ^ 64 = (let e = is.end_is in omega (arith, n, e)) in
     (is.start_is, subst (AreJoined damage.end parts) same (parts_join info damage.end m parts (let e = is.end_is in omega (arith, e)) rest))
 
-module _ (info : StreamInfo) where
+module _ (info : Option StreamInfo) where
   -- ---- frames alone
 
   none_left : (start : ℕ) (m : List ℕ) (part : Part) → IsPart info start [] m (Some part) → ⊥
@@ -60,7 +62,7 @@ module _ (info : StreamInfo) where
   ]
   none_before s (suc n) unsearched at e (inr (fewer, more, may, h)) before frame = absurd (omega (arith, e, more))
 
-  module _ (depth : HasBitDepth info) (s : List ℕ) (few : length s < 2 ^ 64) (start : ℕ) where
+  module _ (depth : IfSome info HasBitDepth) (s : List ℕ) (few : length s < 2 ^ 64) (start : ℕ) where
     -- where each position was searched
     no_frames : (m : List ℕ) (damage : Damage) → damage.unsearched ≡ 0 → (is : IsDamage info start s m damage) → (at : ℕ) → at < length is.bytes → BeginsWithStreamFrame info (drop at s) → ⊥
     no_frames m damage e is at before frame =
@@ -99,9 +101,9 @@ module _ (info : StreamInfo) where
 
     -- the same frame, and what is left after it
     same_frame : (a b : FrameThere) (m q : List ℕ) (is : IsFramePart info start s m a) (other : IsFramePart info start s q b) → (decoded_view a.frame ≡ decoded_view b.frame) × (is.bytes ≡ other.bytes)
-    same_frame a b m q is other = (decoded_unambiguous (known_format (Some info)) depth).one_code (decoded_view a.frame) (decoded_view b.frame) is.bytes other.bytes m q is.frame.0 other.frame.0 (sym is.joined ∙ other.joined)
+    same_frame a b m q is other = (decoded_unambiguous (known_format info) (known_depth info depth)).one_code (decoded_view a.frame) (decoded_view b.frame) is.bytes other.bytes m q is.frame.0 other.frame.0 (sym is.joined ∙ other.joined)
 
-  pub one_run : (start : ℕ) (s : List ℕ) (parts others : List Part) → HasBitDepth info → length s < 2 ^ 64 → AreParts info start s parts → AreParts info start s others → AreSearched parts → AreSearched others → SameParts parts others
+  pub one_run : (start : ℕ) (s : List ℕ) (parts others : List Part) → IfSome info HasBitDepth → length s < 2 ^ 64 → AreParts info start s parts → AreParts info start s others → AreSearched parts → AreSearched others → SameParts parts others
   one_run start s [] [] depth few a b x y = tt
   one_run start s [] (part ∷ parts) depth few a (m, is, rest) x y = absurd (none_left start m part (subst (λ (l : List ℕ). IsPart info start l m (Some part)) a is))
   one_run start s (part ∷ parts) [] depth few (m, is, rest) b x y = absurd (none_left start m part (subst (λ (l : List ℕ). IsPart info start l m (Some part)) b is))

@@ -3,7 +3,7 @@ use Rattle.std.proofs.Common.{◌≡◌, ℕ, ◌+◌, ◌≤◌, Bool, true, fa
 use Rattle.std.proofs.lemmas.List.{length-drop}
 use Rattle.claxon.specs.Source.{Source}
 use Rattle.claxon.specs.StreamInfos.{StreamInfo}
-use Rattle.std.specs.Prelude.{Ok}
+use Rattle.std.specs.Prelude.{Ok, Option}
 use Rattle.claxon_recovery.specs.AtStart.{AnswerIsThere, EndsEarly, HasCause}
 use Rattle.claxon_recovery.specs.declared.at_start.Answer.{Answer}
 use Rattle.claxon_recovery.specs.declared.search.Next.{Next}
@@ -22,17 +22,17 @@ use Rattle.claxon_recovery.proofs.Reading.{reads_both, reads_none}
 
 -- ---- answers about the same bytes
 
-pub same_next : {i j : StreamInfo} {xs ys : List ℕ} {r q : Next} → i ≡ j → xs ≡ ys → r ≡ q → NextIsThere i xs (Ok r) → NextIsThere j ys (Ok q)
+pub same_next : {i j : Option StreamInfo} {xs ys : List ℕ} {r q : Next} → i ≡ j → xs ≡ ys → r ≡ q → NextIsThere i xs (Ok r) → NextIsThere j ys (Ok q)
 same_next {i} {j} {xs} {ys} {r} {q} e f h there =
-    subst (λ (x : Next). NextIsThere j ys (Ok x)) h (subst (λ (s : List ℕ). NextIsThere j s (Ok r)) f (subst (λ (k : StreamInfo). NextIsThere k xs (Ok r)) e there))
+    subst (λ (x : Next). NextIsThere j ys (Ok x)) h (subst (λ (s : List ℕ). NextIsThere j s (Ok r)) f (subst (λ (k : Option StreamInfo). NextIsThere k xs (Ok r)) e there))
 
-pub same_answer : {i j : StreamInfo} {xs ys : List ℕ} {r q : Answer} → i ≡ j → xs ≡ ys → r ≡ q → AnswerIsThere i xs (Ok r) → AnswerIsThere j ys (Ok q)
+pub same_answer : {i j : Option StreamInfo} {xs ys : List ℕ} {r q : Answer} → i ≡ j → xs ≡ ys → r ≡ q → AnswerIsThere i xs (Ok r) → AnswerIsThere j ys (Ok q)
 same_answer {i} {j} {xs} {ys} {r} {q} e f h there =
-    subst (λ (x : Answer). AnswerIsThere j ys (Ok x)) h (subst (λ (s : List ℕ). AnswerIsThere j s (Ok r)) f (subst (λ (k : StreamInfo). AnswerIsThere k xs (Ok r)) e there))
+    subst (λ (x : Answer). AnswerIsThere j ys (Ok x)) h (subst (λ (s : List ℕ). AnswerIsThere j s (Ok r)) f (subst (λ (k : Option StreamInfo). AnswerIsThere k xs (Ok r)) e there))
 
 -- ---- causes
 
-pub cause_longer : (info : StreamInfo) (cause : Cause) (s more : List ℕ) → HasCause info cause s → IsCause info cause (s ++ more)
+pub cause_longer : (info : Option StreamInfo) (cause : Cause) (s more : List ℕ) → HasCause info cause s → IsCause info cause (s ++ more)
 cause_longer info (Fault e) s more h = fault_longer info e s more h
 cause_longer info (OtherFormat block) s more h = other_longer info block s more h
 cause_longer info Cut s more h = absurd h
@@ -81,7 +81,7 @@ module _ {R : Type 0} (source : R → Source ℕ) where
     nothing_left : full ≡ false → SourceIsKnown source old → bytes_left (source (parts_source b)) ≡ []
     nothing_left e known = not_filled wanted a.window b.window full fill e (known_then known)
 
-    module _ (info : StreamInfo) where
+    module _ (info : Option StreamInfo) where
       pub cut_here : full ≡ false → EndsEarly info (parts_pending b) → SourceIsKnown source old → IsCause info Cut (unread source b)
       cut_here e ends known = subst (EndsEarly info) (sym (append-nil (parts_pending b)) ∙ ap (λ (l : List ℕ). parts_pending b ++ l) (sym (nothing_left e known))) ends
 

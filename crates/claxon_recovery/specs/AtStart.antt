@@ -1,5 +1,5 @@
 -- What bytes in memory begin with: a frame of the stream, or none.
-use Rattle.std.specs.Prelude.{◌⊎◌, ◌<◌, ℕ, List, ◌++◌, length, Some, None, Result, Ok, Err}
+use Rattle.std.specs.Prelude.{◌⊎◌, ◌<◌, ℕ, List, ◌++◌, length, Some, None, Result, Ok, Err, Option}
 use Rattle.std.specs.Global.{Global}
 use Rattle.claxon.specs.BlockInfo.{HeaderBytesFault, HeaderOf}
 use Rattle.claxon.specs.BlockInfos.{BlockInfo}
@@ -41,12 +41,12 @@ use Rattle.claxon_recovery.specs.declared.part.Cause.TheVariants.{
   TooLong,
 }
 
-module _ (info : StreamInfo) where
+module _ (known : Option StreamInfo) where
   -- ---- frames of the stream: with the streaminfo's number of channels and bit depth
 
   -- The bytes begin with a frame of the stream.
   abbrev pub BeginsWithStreamFrame : List ℕ → Type 0
-  BeginsWithStreamFrame s = (block : BlockInfo) × WantedFrame (Some info) None s block
+  BeginsWithStreamFrame s = (block : BlockInfo) × WantedFrame known None s block
 
   -- The bytes begin with none, whatever follows.
   abbrev pub NoFrameWhateverFollows : List ℕ → Type 0
@@ -55,7 +55,7 @@ module _ (info : StreamInfo) where
   -- The bytes of a frame of the stream.
   abbrev pub StreamFrameCode : FrameValue → List ℕ → Type 0
   StreamFrameCode value t =
-      FrameWithHeader (known_format (Some info)) value t × HasFormat (Some info) value.info
+      FrameWithHeader (known_format known) value t × HasFormat known value.info
 
   abbrev pub StreamFrame : DecodedFrame Global → List ℕ → Type 0
   StreamFrame frame = StreamFrameCode (decoded_view frame)
@@ -65,18 +65,18 @@ module _ (info : StreamInfo) where
   -- It isn't decided whether a frame begins there: fewer than two bytes are left, or they end
   -- within what may be a header or a frame.
   abbrev pub EndsEarly : List ℕ → Type 0
-  EndsEarly s = (length s < 2) ⊎ (EndsInHeader (Some info) s ⊎ EndsInFrame (Some info) s)
+  EndsEarly s = (length s < 2) ⊎ (EndsInHeader known s ⊎ EndsInFrame known s)
 
   -- The bytes have the fault that the error names.
   abbrev pub HasFaultOf : Error → List ℕ → Type 0
   HasFaultOf e s =
-      (f : Fault) × IsFault f e × BeginsWith (FrameBytesFault (known_format (Some info)) f) s
+      (f : Fault) × IsFault f e × BeginsWith (FrameBytesFault (known_format known) f) s
 
   -- The bytes begin with a header that says this of its block, which has another format.
   abbrev pub HasOtherHeader : BlockInfo → List ℕ → Type 0
   HasOtherHeader block s =
-      BeginsWith (HeaderOf (known_format (Some info)) block) s
-      × (HasFormat (Some info) block → ⊥)
+      BeginsWith (HeaderOf (known_format known) block) s
+      × (HasFormat known block → ⊥)
 
   -- The bytes begin with no frame, for such a cause, whatever follows.
   abbrev pub HasCause : Cause → List ℕ → Type 0
@@ -97,21 +97,21 @@ module _ (info : StreamInfo) where
   -- The bytes begin with such a header, or with its fault, or they end within it.
   abbrev pub HeaderStands : List ℕ → Result HeaderInBytes NoHeader → Type 0
   HeaderStands bytes (Ok header) =
-      WantedHeader (Some info) None bytes (said_by header)
-      × HeaderIsThere (known_format (Some info)) bytes header
+      WantedHeader known None bytes (said_by header)
+      × HeaderIsThere (known_format known) bytes header
   HeaderStands bytes (Err (Other block)) = HasOtherHeader block bytes
   HeaderStands bytes (Err (Faulty e)) =
       (f : Fault) × IsFault f e
-      × BeginsWith (HeaderBytesFault (known_format (Some info)) f) bytes
-  HeaderStands bytes (Err CutHeader) = (length bytes < 2) ⊎ EndsInHeader (Some info) bytes
+      × BeginsWith (HeaderBytesFault (known_format known) f) bytes
+  HeaderStands bytes (Err CutHeader) = (length bytes < 2) ⊎ EndsInHeader known bytes
 
   -- The bytes begin with a frame, or with its fault, of this length, or they end within it.
   -- `OutOfMemory` is the only Err.
   abbrev pub FrameStands : List ℕ → Result RestHere Error → Type 0
   FrameStands bytes (Ok (Whole len block)) =
-      BeginsWithLength (Frame (known_format (Some info)) (block_view block)) bytes len
+      BeginsWithLength (Frame (known_format known) (block_view block)) bytes len
   FrameStands bytes (Ok (Broken len e)) =
       (f : Fault) × IsFault f e
-      × BeginsWithLength (FrameBytesFault (known_format (Some info)) f) bytes len
-  FrameStands bytes (Ok CutFrame) = EndsInFrame (Some info) bytes
+      × BeginsWithLength (FrameBytesFault (known_format known) f) bytes len
+  FrameStands bytes (Ok CutFrame) = EndsInFrame known bytes
   FrameStands bytes (Err e) = IsOutOfMemory {A = RestHere} (Err e)

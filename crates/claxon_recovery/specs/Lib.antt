@@ -9,3 +9,4 @@ pub mod Steps
 pub mod Stream
 pub mod Parts
 pub mod Runs
+pub mod NextFrame

@@ -49,7 +49,7 @@ use Rattle.claxon_recovery.specs.Kept.{most_kept}
 use Rattle.claxon_recovery.specs.Passed.{AreFirstOf, IsOfBytes}
 use Rattle.claxon_recovery.specs.Search.{BeginsWithStreamHeader}
 use Rattle.claxon_recovery.specs.Steps.{first_step, step_count, step_unsearched}
-use Rattle.claxon_recovery.specs.Stream.{stream_info}
+use Rattle.claxon_recovery.specs.Stream.{stream_known}
 use Rattle.claxon_recovery.specs.Window.{
   Fails,
   NothingIsLeft,
@@ -89,9 +89,9 @@ parts_source p = window_source p.window
 abbrev pub parts_pending : {R : Type 0} → Parts R → List ℕ
 parts_pending p = pending p.window
 
--- the streaminfo
-abbrev pub parts_info : {R : Type 0} → Parts R → StreamInfo
-parts_info p = stream_info p.stream
+-- the streaminfo, if that is known
+abbrev pub parts_known : {R : Type 0} → Parts R → Option StreamInfo
+parts_known p = stream_known p.stream
 
 -- the position of the next byte
 abbrev pub parts_position : {R : Type 0} → Parts R → ℕ
@@ -114,40 +114,40 @@ abbrev pub SourceIsKnown : {R : Type 0} → (R → Source ℕ) → Parts R → T
 SourceIsKnown source p = IsKnown (source (parts_source p)).remaining
 
 -- Nothing was read so far.
-pub record BeginsParts {R : Type 0} (source : R) (info : StreamInfo) (position : ℕ) (p : Parts R)
-    : Type 0 where
+pub record BeginsParts {R : Type 0} (source : R) (known : Option StreamInfo) (position : ℕ)
+    (p : Parts R) : Type 0 where
   pub source_is : parts_source p ≡ source
   pub none_pending : parts_pending p ≡ []
-  pub info_is : parts_info p ≡ info
+  pub known_is : parts_known p ≡ known
   pub position_is : parts_position p ≡ position
 
 -- ---- where frames begin
 
-module _ (info : StreamInfo) where
+module _ (known : Option StreamInfo) where
   -- The first bytes, as many as are kept, end within what may be a frame of the stream.
   pub record IsTooLong (s : List ℕ) : Type 0 where
     pub front : List ℕ
     pub rest : List ℕ
     pub joined : s ≡ front ++ rest
-    pub long : most_kept info ≤ length front
-    pub ends : EndsEarly info front
+    pub long : most_kept known ≤ length front
+    pub ends : EndsEarly known front
 
   -- It may be passed unsearched: a frame header stands there, or the frame would be too long.
   abbrev pub MayBePassed : List ℕ → Type 0
-  MayBePassed s = BeginsWithStreamHeader info s ⊎ IsTooLong s
+  MayBePassed s = BeginsWithStreamHeader known s ⊎ IsTooLong s
 
   -- At the first n positions no frame of the stream begins; but so many of them weren't searched.
   abbrev pub NoFrames : List ℕ → ℕ → ℕ → Type 0
   NoFrames s zero unsearched = unsearched ≡ 0
   NoFrames s (suc n) unsearched =
-      ((BeginsWithStreamFrame info (drop n s) → ⊥) × NoFrames s n unsearched)
+      ((BeginsWithStreamFrame known (drop n s) → ⊥) × NoFrames s n unsearched)
       ⊎ ((fewer : ℕ) × (unsearched ≡ fewer + 1) × MayBePassed (drop n s) × NoFrames s n fewer)
 
   -- No frame of the stream begins s, for this cause.
   abbrev pub IsCause : Cause → List ℕ → Type 0
-  IsCause (Fault e) s = HasFaultOf info e s
-  IsCause (OtherFormat block) s = HasOtherHeader info block s
-  IsCause Cut s = EndsEarly info s
+  IsCause (Fault e) s = HasFaultOf known e s
+  IsCause (OtherFormat block) s = HasOtherHeader known block s
+  IsCause Cut s = EndsEarly known s
   IsCause TooLong s = IsTooLong s
 
   -- ---- the parts of s, of which m is left. `start` is its position.
@@ -156,7 +156,7 @@ module _ (info : StreamInfo) where
   pub record IsFramePart (start : ℕ) (s m : List ℕ) (there : FrameThere) : Type 0 where
     pub bytes : List ℕ
     pub joined : s ≡ bytes ++ m
-    pub frame : StreamFrame info there.frame bytes
+    pub frame : StreamFrame known there.frame bytes
     pub start_is : there.start ≡ start
     pub end_is : there.end ≡ (start + length bytes) % 2 ^ 64
 
@@ -168,7 +168,7 @@ module _ (info : StreamInfo) where
     pub cause : IsCause damage.cause s
     pub unsearched : ℕ
     pub none : NoFrames s (length bytes) unsearched
-    pub next : (m ≡ []) ⊎ BeginsWithStreamFrame info m
+    pub next : (m ≡ []) ⊎ BeginsWithStreamFrame known m
     pub start_is : damage.start ≡ start
     pub end_is : damage.end ≡ (start + length bytes) % 2 ^ 64
     pub unsearched_is : damage.unsearched ≡ unsearched % 2 ^ 64
@@ -189,11 +189,11 @@ after_part start (Some (DamagePart damage)) = damage.end
 -- ---- positions at which no frame begins
 
 -- The first positions of s.
-pub record IsStep (info : StreamInfo) (s : List ℕ) (step : Step) : Type 0 where
-  pub none : (at : ℕ) → at < step.searched → BeginsWithStreamFrame info (drop at s) → ⊥
-  pub passed : IsTrue step.passes_next → MayBePassed info (drop step.searched s)
+pub record IsStep (known : Option StreamInfo) (s : List ℕ) (step : Step) : Type 0 where
+  pub none : (at : ℕ) → at < step.searched → BeginsWithStreamFrame known (drop at s) → ⊥
+  pub passed : IsTrue step.passes_next → MayBePassed known (drop step.searched s)
   pub last : IsTrue step.is_last
-      → (drop (step_count step) s ≡ []) ⊎ BeginsWithStreamFrame info (drop (step_count step) s)
+      → (drop (step_count step) s ≡ []) ⊎ BeginsWithStreamFrame known (drop (step_count step) s)
 
 -- The part is a frame with this value.
 abbrev pub IsFrameOf : FrameValue → Option Part → Type 0
@@ -230,7 +230,7 @@ module _ {R : Type 0} (source : R → Source ℕ) (old new : Parts R) where
   -- both of it
   abbrev pub PartGives : Result (Option Part) Error → Type 0
   PartGives (Ok found) =
-      Goes (λ s m. IsPart (parts_info old) (parts_position old) s m found)
+      Goes (λ s m. IsPart (parts_known old) (parts_position old) s m found)
       × (parts_position new ≡ after_part (parts_position old) found)
   PartGives (Err e) = PartStops e
 
@@ -238,7 +238,7 @@ module _ {R : Type 0} (source : R → Source ℕ) (old new : Parts R) where
   -- source failed.
   abbrev pub PartIsThere : Result (Option Part) Error → Type 0
   PartIsThere result = IfOk result (λ found.
-      Goes (λ s m. IsPart (parts_info old) (parts_position old) s m found)
+      Goes (λ s m. IsPart (parts_known old) (parts_position old) s m found)
       × (parts_position new ≡ after_part (parts_position old) found))
 
   -- If a frame of the stream comes next, of no more bytes than are kept, that is answered, and it
@@ -246,8 +246,8 @@ module _ {R : Type 0} (source : R → Source ℕ) (old new : Parts R) where
   abbrev pub FrameIsFound : Result (Option Part) Error → Type 0
   FrameIsFound result = IfOk result (λ found.
       SourceIsKnown source old → (value : FrameValue) (t rest : List ℕ)
-      → StreamFrameCode (parts_info old) value t → unread source old ≡ t ++ rest
-      → length t ≤ most_kept (parts_info old) → IsFrameOf value found × (unread source new ≡ rest))
+      → StreamFrameCode (parts_known old) value t → unread source old ≡ t ++ rest
+      → length t ≤ most_kept (parts_known old) → IsFrameOf value found × (unread source new ≡ rest))
 
   -- An Err says that memory was refused, that a read failed, or that too many bytes are no frame.
   abbrev pub PartErrIsExcused : Result (Option Part) Error → Type 0
@@ -256,10 +256,10 @@ module _ {R : Type 0} (source : R → Source ℕ) (old new : Parts R) where
   -- What is answered stands there, and nothing is passed.
   abbrev pub HereGives : Result Here Error → Type 0
   HereGives (Ok (Frame len frame)) =
-      Stays × BeginsWithLength (StreamFrame (parts_info old) frame) (parts_pending new) len
+      Stays × BeginsWithLength (StreamFrame (parts_known old) frame) (parts_pending new) len
   HereGives (Ok (NoFrame cause)) =
       Stays × (1 ≤ length (parts_pending new))
-      × (SourceIsKnown source old → IsCause (parts_info old) cause (unread source new))
+      × (SourceIsKnown source old → IsCause (parts_known old) cause (unread source new))
   HereGives (Ok End) =
       Stays × (parts_pending new ≡ [])
       × NothingIsLeft (source (parts_source old)) (source (parts_source new))
@@ -270,15 +270,15 @@ module _ {R : Type 0} (source : R → Source ℕ) (old new : Parts R) where
   StepGives (Ok step) =
       Stays × (step_count step ≤ length (parts_pending new))
       × (step.is_last ≡ false → 1 ≤ step_count step)
-      × (SourceIsKnown source old → IsStep (parts_info old) (unread source new) step)
+      × (SourceIsKnown source old → IsStep (parts_known old) (unread source new) step)
   StepGives (Err e) = (e ≡ OutOfMemory) ⊎ PartFails e
 
   -- Where no frame begins for this cause, the damage that is answered stands there, and is passed.
   abbrev pub DamageGives : Cause → Result Damage Error → Type 0
   DamageGives cause (Ok damage) =
       Goes (λ s m.
-      IsCause (parts_info old) cause s
-      → IsDamage (parts_info old) (parts_position old) s m damage)
+      IsCause (parts_known old) cause s
+      → IsDamage (parts_known old) (parts_position old) s m damage)
       × (parts_position new ≡ damage.end)
   DamageGives cause (Err e) = PartStops e
 
@@ -315,7 +315,7 @@ module _ {R : Type 0} (old new : Parts R) where
 
 -- The stream is the same.
 abbrev pub KeepsStream : {R : Type 0} → Parts R → Parts R → Type 0
-KeepsStream old new = parts_info new ≡ parts_info old
+KeepsStream old new = parts_known new ≡ parts_known old
 
 -- Just so many pending bytes were passed.
 pub record PassesBytes {R : Type 0} (count : ℕ) (old new : Parts R) : Type 0 where

@@ -1,5 +1,5 @@
 -- Whole runs: the parts of a stream, one after another, up to its end.
-use Rattle.std.specs.Prelude.{◌≡◌, ◌+◌, ◌%◌, ◌^◌, ◌<◌, ◌≤◌, ℕ, List, [], ◌∷◌, ◌++◌, length, Some}
+use Rattle.std.specs.Prelude.{◌≡◌, ◌+◌, ◌%◌, ◌^◌, ◌<◌, ◌≤◌, ℕ, List, [], ◌∷◌, ◌++◌, length, Some, Option, IfSome}
 use Rattle.claxon.specs.DecodedFrame.{FrameValue, decoded_view}
 use Rattle.claxon.specs.ShownHead.{HasBitDepth}
 use Rattle.claxon.specs.StreamInfos.{StreamInfo}
@@ -14,33 +14,33 @@ use Rattle.claxon_recovery.specs.declared.part.Part.TheVariants.{
 
 -- ---- a run
 
-module _ (info : StreamInfo) where
+module _ (known : Option StreamInfo) where
   -- The bytes s, of which the first is at the position start, have these parts.
   abbrev pub AreParts : ℕ → List ℕ → List Part → Type 0
   AreParts start s [] = s ≡ []
   AreParts start s (part ∷ parts) =
-      (m : List ℕ) × IsPart info start s m (Some part)
+      (m : List ℕ) × IsPart known start s m (Some part)
       × AreParts (after_part start (Some part)) m parts
 
   -- If a frame of the stream comes next, of no more bytes than are kept, it is the part.
   abbrev pub FindsFrame : List ℕ → List ℕ → Part → Type 0
   FindsFrame s m part =
-      (value : FrameValue) (t rest : List ℕ) → StreamFrameCode info value t → s ≡ t ++ rest
-      → length t ≤ most_kept info → IsFrameOf value (Some part) × (m ≡ rest)
+      (value : FrameValue) (t rest : List ℕ) → StreamFrameCode known value t → s ≡ t ++ rest
+      → length t ≤ most_kept known → IsFrameOf value (Some part) × (m ≡ rest)
 
   -- They are what calls answer.
   abbrev pub AreAnswered : ℕ → List ℕ → List Part → Type 0
   AreAnswered start s [] = s ≡ []
   AreAnswered start s (part ∷ parts) =
-      (m : List ℕ) × IsPart info start s m (Some part) × FindsFrame s m part
+      (m : List ℕ) × IsPart known start s m (Some part) × FindsFrame s m part
       × AreAnswered (after_part start (Some part)) m parts
 
   -- The bytes are these frames of the stream, of no more bytes than are kept.
   abbrev pub AreFrames : List FrameValue → List ℕ → Type 0
   AreFrames [] s = s ≡ []
   AreFrames (value ∷ values) s =
-      (t : List ℕ) × (rest : List ℕ) × StreamFrameCode info value t × (s ≡ t ++ rest)
-      × (length t ≤ most_kept info) × AreFrames values rest
+      (t : List ℕ) × (rest : List ℕ) × StreamFrameCode known value t × (s ≡ t ++ rest)
+      × (length t ≤ most_kept known) × AreFrames values rest
 
 -- ---- what is said of its parts
 
@@ -90,17 +90,17 @@ AreJoined start (part ∷ parts) end = (part_start part ≡ start) × AreJoined 
 
 -- Bytes have one list of parts where each position of damage was searched.
 abbrev pub OneRun : Type 0
-OneRun = (info : StreamInfo) (start : ℕ) (s : List ℕ) (parts others : List Part) → HasBitDepth info
-    → length s < 2 ^ 64 → AreParts info start s parts → AreParts info start s others
+OneRun = (known : Option StreamInfo) (start : ℕ) (s : List ℕ) (parts others : List Part)
+    → IfSome known HasBitDepth → length s < 2 ^ 64 → AreParts known start s parts → AreParts known start s others
     → AreSearched parts → AreSearched others → SameParts parts others
 
 -- Of frames of the stream alone the parts are these frames.
 abbrev pub FramesAlone : Type 0
-FramesAlone = (info : StreamInfo) (start : ℕ) (s : List ℕ) (values : List FrameValue)
-    (parts : List Part) → HasBitDepth info → AreFrames info values s
-    → AreAnswered info start s parts → AreFrameParts values parts
+FramesAlone = (known : Option StreamInfo) (start : ℕ) (s : List ℕ) (values : List FrameValue)
+    (parts : List Part) → IfSome known HasBitDepth → AreFrames known values s
+    → AreAnswered known start s parts → AreFrameParts values parts
 
 -- The parts join from the first position to that after the last byte, modulo 2 ^ 64.
 abbrev pub PartsJoin : Type 0
-PartsJoin = (info : StreamInfo) (start : ℕ) (s : List ℕ) (parts : List Part) → start < 2 ^ 64
-    → AreParts info start s parts → AreJoined start parts ((start + length s) % 2 ^ 64)
+PartsJoin = (known : Option StreamInfo) (start : ℕ) (s : List ℕ) (parts : List Part) → start < 2 ^ 64
+    → AreParts known start s parts → AreJoined start parts ((start + length s) % 2 ^ 64)

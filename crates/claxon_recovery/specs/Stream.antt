@@ -1,7 +1,8 @@
 -- What a stream says of its frames.
+use Rattle.std.specs.Prelude.{Option}
 use Rattle.claxon.specs.StreamInfos.{StreamInfo}
 use Rattle.claxon_recovery.specs.declared.stream.Stream.{Stream}
 
--- its streaminfo
-abbrev pub stream_info : Stream → StreamInfo
-stream_info stream = stream.info
+-- its streaminfo, if that is known
+abbrev pub stream_known : Stream → Option StreamInfo
+stream_known stream = stream.known

@@ -1,5 +1,5 @@
 //! What bytes in memory begin with: a frame of the stream, or none.
-ghost use Rattle.std.specs.Prelude.{◌↔◌, IfOk, IsTrue, Some, length};
+ghost use Rattle.std.specs.Prelude.{IfSome, ◌↔◌, IfOk, IsTrue, Some, length};
 ghost use Rattle.claxon.specs.ShownHead.{HasBitDepth};
 ghost use Rattle.claxon_seek.specs.AtStart.{HeaderIsThere, said_by};
 ghost use Rattle.claxon_seek.specs.BlockMemory.{MemoryIsCounted};
@@ -54,21 +54,21 @@ pub(crate) enum Answer {
 pub(crate) fn frame_at_start(
     memory: &mut BlockMemory,
     bytes: &[u8],
-    info: StreamInfo,
+    known: Option<StreamInfo>,
     budget: &mut Budget,
 ) -> Result<Answer>
-    requires { HasBitDepth info }
-    ensures is_there { AnswerIsThere info bytes.now result }
+    requires { IfSome known (λ info. HasBitDepth info) }
+    ensures is_there { AnswerIsThere known bytes.now result }
     ensures memory_is_counted { MemoryIsCounted result memory.old memory.new }
     ensures searched { IfOk result (λ _. CountsUnsearched 0 budget.old budget.new) }
 {
-    let header = match header_here(bytes, info) {
+    let header = match header_here(bytes, known) {
         Ok(header) => header,
         Err(NoHeader::Other(block)) => return Ok(Answer::NoFrame(Cause::OtherFormat(block))),
         Err(NoHeader::Faulty(error)) => return Ok(Answer::NoFrame(Cause::Fault(error))),
         Err(NoHeader::CutHeader) => return Ok(Answer::Undecided),
     };
-    match charged_rest(memory, bytes, info, header, budget)? {
+    match charged_rest(memory, bytes, known, header, budget)? {
         RestHere::Whole(len, block) => {
             let info = header.info();
             Ok(Answer::Found(len, DecodedFrame { info, block }))
@@ -79,14 +79,17 @@ pub(crate) fn frame_at_start(
 }
 
 // The header that the bytes begin with.
-pub(crate) fn header_here(bytes: &[u8], info: StreamInfo) -> result::Result<HeaderInBytes, NoHeader>
-    requires { HasBitDepth info }
-    ensures stands { HeaderStands info bytes.now result }
+pub(crate) fn header_here(
+    bytes: &[u8],
+    known: Option<StreamInfo>,
+) -> result::Result<HeaderInBytes, NoHeader>
+    requires { IfSome known (λ info. HasBitDepth info) }
+    ensures stands { HeaderStands known bytes.now result }
 {
-    match header_at_start(bytes, Some(info)) {
+    match header_at_start(bytes, known) {
         Ok(Some(header)) => {
             let block = header.info();
-            if has_format(&block, info) {
+            if has_format(&block, known) {
                 Ok(header)
             } else {
                 Err(NoHeader::Other(block))
@@ -100,28 +103,31 @@ pub(crate) fn header_here(bytes: &[u8], info: StreamInfo) -> result::Result<Head
     }
 }
 
-fn has_format(block: &BlockInfo, info: StreamInfo) -> bool
-    ensures { IsTrue result ↔ HasFormat (Some info) block.now }
+fn has_format(block: &BlockInfo, known: Option<StreamInfo>) -> bool
+    ensures { IsTrue result ↔ HasFormat known block.now }
 {
-    block.channels == info.channels && block.bit_depth == info.bits_per_sample
+    match known {
+        Some(info) => block.channels == info.channels && block.bit_depth == info.bits_per_sample,
+        None => true,
+    }
 }
 
 // The frame whose header the bytes begin with. A try that leads to none is charged.
 pub(crate) fn charged_rest(
     memory: &mut BlockMemory,
     bytes: &[u8],
-    info: StreamInfo,
+    known: Option<StreamInfo>,
     header: HeaderInBytes,
     budget: &mut Budget,
 ) -> Result<RestHere>
-    requires depth { HasBitDepth info }
-    requires is_there { HeaderIsThere (known_format (Some info)) bytes.now header }
-    ensures stands { FrameStands info bytes.now result }
+    requires depth { IfSome known (λ info. HasBitDepth info) }
+    requires is_there { HeaderIsThere (known_format known) bytes.now header }
+    ensures stands { FrameStands known bytes.now result }
     ensures memory_is_counted { MemoryIsCounted result memory.old memory.new }
     ensures is_charged { IfOk result (λ rest. RestIsCharged (block_samples (said_by header))
         (length bytes.now) rest budget.old budget.new) }
 {
-    let rest = rest_here(memory, bytes, info, header)?;
+    let rest = rest_here(memory, bytes, known, header)?;
     charge(budget, header, bytes.len(), &rest);
     Ok(rest)
 }
@@ -142,16 +148,16 @@ fn charge(budget: &mut Budget, header: HeaderInBytes, size: usize, rest: &RestHe
 fn rest_here(
     memory: &mut BlockMemory,
     bytes: &[u8],
-    info: StreamInfo,
+    known: Option<StreamInfo>,
     header: HeaderInBytes,
 ) -> Result<RestHere>
-    requires depth { HasBitDepth info }
-    requires is_there { HeaderIsThere (known_format (Some info)) bytes.now header }
-    ensures stands { FrameStands info bytes.now result }
+    requires depth { IfSome known (λ info. HasBitDepth info) }
+    requires is_there { HeaderIsThere (known_format known) bytes.now header }
+    ensures stands { FrameStands known bytes.now result }
     ensures memory_is_counted { MemoryIsCounted result memory.old memory.new }
 {
     let mut len = 0;
-    match rest_at_start(memory, bytes, Some(info), header, &mut len) {
+    match rest_at_start(memory, bytes, known, header, &mut len) {
         Ok(block) => Ok(RestHere::Whole(len, block)),
         Err(Error::IoError(_)) => Ok(RestHere::CutFrame),
         Err(Error::FormatError(text)) => Ok(RestHere::Broken(len, Error::FormatError(text))),

@@ -71,8 +71,8 @@ impl Budget {
     }
 
     // The bytes are as many as are kept, and end within what may be a frame: the position is counted as unsearched.
-    pub(crate) fn pass_long(&mut self, bytes: &[u8], info: StreamInfo)
-        requires { EndsEarly info bytes.now × (most_kept info ≤ length bytes.now) }
+    pub(crate) fn pass_long(&mut self, bytes: &[u8], known: Option<StreamInfo>)
+        requires { EndsEarly known bytes.now × (most_kept known ≤ length bytes.now) }
         ensures wasted { wasted_work self.new ≡ wasted_work self.old }
         ensures unsearched { CountsUnsearched 1 self.old self.new }
     {

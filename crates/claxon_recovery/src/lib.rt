@@ -14,6 +14,7 @@
 mod at_start;
 mod budget;
 pub mod laws;
+mod next_frame;
 mod part;
 mod parts;
 mod passed;
@@ -21,5 +22,6 @@ mod search;
 mod stream;
 mod window;
 
+pub use next_frame::info_of_frame;
 pub use part::{Cause, Damage, FrameThere, Part};
 pub use parts::Parts;

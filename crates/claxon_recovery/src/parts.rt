@@ -7,6 +7,7 @@ ghost use Rattle.std.specs.Prelude.{
   ◌≤◌,
   IfErr,
   IfOk,
+  IfSome,
   false,
   true,
   length,
@@ -16,7 +17,7 @@ ghost use Rattle.claxon.specs.Error.{is_out_of_memory};
 ghost use Rattle.claxon.specs.ShownHead.{HasBitDepth};
 ghost use Rattle.claxon_recovery.specs.Kept.{most_kept};
 ghost use Rattle.claxon_recovery.specs.Steps.{first_step, step_count};
-ghost use Rattle.claxon_recovery.specs.Stream.{stream_info};
+ghost use Rattle.claxon_recovery.specs.Stream.{stream_known};
 ghost use Rattle.claxon_recovery.specs.Window.{most_pending};
 
 use crate::at_start::{Answer, frame_at_start};
@@ -39,7 +40,7 @@ const USUAL: usize = 64 * 1024;
 /// The parts of a stream whose head was read.
 ///
 /// ```
-/// let mut parts = Parts::new(alloc, &mut input, info, position)?;
+/// let mut parts = Parts::new(alloc, &mut input, Some(info), position)?;
 /// while let Some(part) = parts.next_part()? {
 ///     match part {
 ///         Part::Frame(there) => play(there.frame.block)?,
@@ -57,7 +58,7 @@ pub struct Parts<R> {
     budget: Budget,
     // How many bytes are read before a frame is decoded.
     usual: usize,
-    ghost most: { most_pending window ≡ most_kept (stream_info stream) },
+    ghost most: { most_pending window ≡ most_kept (stream_known stream) },
 }
 
 // What stands at a position.
@@ -119,19 +120,25 @@ impl<R: ReadBytes> Parts<R> {
       parts_position,
     };
 
-    /// The parts of the stream with this streaminfo, whose next byte is at this position.
+    /// The parts of the stream with this streaminfo, whose next byte is at this position. Where no streaminfo is known the frames are
+    /// those that say their whole format themselves, of any format.
     ///
     /// # Errors
     ///
     /// `OutOfMemory` alone, where memory for the bytes is refused.
-    pub fn new(alloc: Global, source: R, info: StreamInfo, position: u64) -> Result<Parts<R>>
+    pub fn new(
+        alloc: Global,
+        source: R,
+        known: Option<StreamInfo>,
+        position: u64,
+    ) -> Result<Parts<R>>
     where
         R: Drop,
-        requires { HasBitDepth info }
-        ensures begins { IfOk result (BeginsParts source info position) }
+        requires { IfSome known (λ info. HasBitDepth info) }
+        ensures begins { IfOk result (BeginsParts source known position) }
         ensures err { IfErr result (λ e. e ≡ Error.OutOfMemory) }
     {
-        let stream = Stream::new(info);
+        let stream = Stream::new(known);
         Ok(Parts {
             window: Window::new(alloc, source, stream.most_kept())?,
             stream,
@@ -188,7 +195,7 @@ impl<R: ReadBytes> Parts<R> {
             (parts_memory self.old) (parts_memory self.new) }
         ensures keeps_stream { KeepsStream self.old self.new }
     {
-        let info = self.stream.info();
+        let known = self.stream.known();
         let most = self.stream.most_kept();
         let mut wanted = self.usual.clamp(USUAL, most);
         loop {
@@ -197,12 +204,12 @@ impl<R: ReadBytes> Parts<R> {
             if bytes.is_empty() {
                 return Ok(Here::End);
             }
-            match frame_at_start(&mut self.memory, bytes, info, &mut self.budget)? {
+            match frame_at_start(&mut self.memory, bytes, known, &mut self.budget)? {
                 Answer::Found(len, frame) => return Ok(Here::Frame(len, frame)),
                 Answer::NoFrame(cause) => return Ok(Here::NoFrame(cause)),
                 Answer::Undecided if !is_full => return Ok(Here::NoFrame(Cause::Cut)),
                 Answer::Undecided if wanted == most => {
-                    self.budget.pass_long(bytes, info);
+                    self.budget.pass_long(bytes, known);
                     return Ok(Here::NoFrame(Cause::TooLong));
                 }
                 Answer::Undecided => wanted = (2 * wanted).min(most),
@@ -296,21 +303,21 @@ impl<R: ReadBytes> Parts<R> {
             (parts_memory self.old) (parts_memory self.new) }
         ensures keeps_stream { KeepsStream self.old self.new }
     {
-        let info = self.stream.info();
+        let known = self.stream.known();
         let most = self.stream.most_kept();
         let mut wanted = USUAL;
         loop {
             let is_full = self.window.fill(wanted)?;
             let bytes = self.window.pending();
             let len = bytes.len();
-            match next_frame(&mut self.memory, bytes, info, &mut self.budget)? {
+            match next_frame(&mut self.memory, bytes, known, &mut self.budget)? {
                 Next::Frame(at) => return Ok(last_step(at)),
                 Next::OverBudget(at) => return Ok(passed_step(at)),
                 Next::Undecided(at) if !is_full && at == len => return Ok(last_step(at)),
                 Next::Undecided(at) if !is_full => return Ok(searched_step(at + 1)),
                 Next::Undecided(at) if at > 0 => return Ok(searched_step(at)),
                 Next::Undecided(at) if wanted == most => {
-                    self.budget.pass_long(bytes, info);
+                    self.budget.pass_long(bytes, known);
                     return Ok(passed_step(at));
                 }
                 Next::Undecided(_) => wanted = (2 * wanted).min(most),
@@ -362,7 +369,7 @@ fn passed_step(searched: usize) -> Step
 }
 
 // That there are more bytes than can be counted.
-fn too_long() -> Error
+pub(crate) fn too_long() -> Error
     ensures { is_out_of_memory result ≡ false }
 {
     Error::Unsupported("2^64 bytes or more that are no frame")

@@ -1,5 +1,5 @@
 //! A search for the next frame in bytes that are in memory.
-ghost use Rattle.std.specs.Prelude.{◌≡◌, IfOk};
+ghost use Rattle.std.specs.Prelude.{IfSome, ◌≡◌, IfOk};
 ghost use Rattle.claxon.specs.ShownHead.{HasBitDepth};
 ghost use Rattle.claxon_seek.specs.BlockMemory.{MemoryIsCounted};
 ghost use Rattle.claxon_recovery.specs.Budget.{wasted_work};
@@ -40,11 +40,11 @@ pub(crate) enum Tried {
 pub(crate) fn next_frame(
     memory: &mut BlockMemory,
     bytes: &[u8],
-    info: StreamInfo,
+    known: Option<StreamInfo>,
     budget: &mut Budget,
 ) -> Result<Next>
-    requires { HasBitDepth info }
-    ensures is_there { NextIsThere info bytes.now result }
+    requires { IfSome known (λ info. HasBitDepth info) }
+    ensures is_there { NextIsThere known bytes.now result }
     ensures memory_is_counted { MemoryIsCounted result memory.old memory.new }
     ensures is_counted { IfOk result (λ next. NextIsCounted next budget.old budget.new) }
 {
@@ -53,7 +53,7 @@ pub(crate) fn next_frame(
         if shows_no_header(rest) {
             continue;
         }
-        match try_frame(memory, rest, info, budget)? {
+        match try_frame(memory, rest, known, budget)? {
             Tried::Whole => return Ok(Next::Frame(position)),
             Tried::NoFrame => continue,
             Tried::Cut => return Ok(Next::Undecided(position)),
@@ -68,15 +68,15 @@ pub(crate) fn next_frame(
 fn try_frame(
     memory: &mut BlockMemory,
     bytes: &[u8],
-    info: StreamInfo,
+    known: Option<StreamInfo>,
     budget: &mut Budget,
 ) -> Result<Tried>
-    requires { HasBitDepth info }
-    ensures is_there { TriedIsThere info bytes.now (wasted_work budget.old) result }
+    requires { IfSome known (λ info. HasBitDepth info) }
+    ensures is_there { TriedIsThere known bytes.now (wasted_work budget.old) result }
     ensures memory_is_counted { MemoryIsCounted result memory.old memory.new }
     ensures is_counted { IfOk result (λ tried. TriedIsCounted tried budget.old budget.new) }
 {
-    let header = match header_here(bytes, info) {
+    let header = match header_here(bytes, known) {
         Ok(header) => header,
         Err(NoHeader::Other(_)) => return Ok(Tried::NoFrame),
         Err(NoHeader::Faulty(_)) => return Ok(Tried::NoFrame),
@@ -85,7 +85,7 @@ fn try_frame(
     if !budget.request(header) {
         return Ok(Tried::Unpaid);
     }
-    let rest = charged_rest(memory, bytes, info, header, budget)?;
+    let rest = charged_rest(memory, bytes, known, header, budget)?;
     Ok(tried_of(&rest))
 }
 

@@ -1,5 +1,6 @@
 //! What frames are compared with.
-ghost use Rattle.std.specs.Prelude.{◌≡◌, ◌+◌, ◌*◌, ◌/◌, ◌≤◌, min};
+ghost use Rattle.std.specs.Prelude.{IfSome, ◌≡◌, ◌+◌, ◌*◌, ◌/◌, ◌≤◌, min};
+ghost use Rattle.std.proofs.Props.{props};
 ghost use Rattle.claxon.specs.ShownHead.{HasBitDepth};
 ghost use Rattle.claxon_recovery.specs.Kept.{most_kept};
 
@@ -11,40 +12,43 @@ const LEAST_KEPT: usize = 512 * 1024;
 // How many bytes are kept at most of any stream.
 const MOST_KEPT: usize = 4 * 1024 * 1024;
 
-// A streaminfo, with its bit depth within bounds.
+// A streaminfo, if that is known, with its bit depth within bounds.
 #[derive(Drop)]
 pub(crate) struct Stream {
-    info: StreamInfo,
-    ghost min_bit_depth: { 1 ≤ info.bits_per_sample },
-    ghost max_bit_depth: { info.bits_per_sample ≤ 32 },
+    known: Option<StreamInfo>,
+    ghost has_bit_depth: { IfSome known (λ info. HasBitDepth info) } by { Prim.hlevel props },
 }
 
 impl Stream {
-    ghost use Rattle.claxon_recovery.specs.Stream.{stream_info};
+    ghost use Rattle.claxon_recovery.specs.Stream.{stream_known};
 
-    pub fn new(info: StreamInfo) -> Stream
-        requires { HasBitDepth info }
-        ensures { stream_info result ≡ info }
+    pub fn new(known: Option<StreamInfo>) -> Stream
+        requires { IfSome known (λ info. HasBitDepth info) }
+        ensures { stream_known result ≡ known }
     {
-        Stream { info }
+        Stream { known }
     }
 
-    pub fn info(&self) -> StreamInfo
-        ensures info { result ≡ stream_info self.now }
-        ensures has_bit_depth { HasBitDepth result }
+    pub fn known(&self) -> Option<StreamInfo>
+        ensures known { result ≡ stream_known self.now }
+        ensures has_bit_depth { IfSome result (λ info. HasBitDepth info) }
     {
-        self.info
+        self.known
     }
 
     // How many bytes are kept at most.
     pub fn most_kept(&self) -> usize
-        ensures is { result ≡ most_kept (stream_info self.now) }
+        ensures is { result ≡ most_kept (stream_known self.now) }
         ensures least { 524288 ≤ result }
         ensures most { result ≤ 4194304 }
     {
-        let info = self.info;
-        let len = verbatim_len(info.max_block_size, info.channels, info.bits_per_sample);
-        len.min(MOST_KEPT).max(LEAST_KEPT)
+        match self.known {
+            Some(info) => {
+                let len = verbatim_len(info.max_block_size, info.channels, info.bits_per_sample);
+                len.min(MOST_KEPT).max(LEAST_KEPT)
+            }
+            None => LEAST_KEPT,
+        }
     }
 }
 

@@ -36,7 +36,12 @@ fn is_any_frame<R: ReadBytes>(parts: &mut Parts<R>) -> bool {
 #[test]
 fn headers_over_budget(rt: HostRuntime) -> Result<(), Fail> {
     let bytes = headers_without_frames(rt.alloc())?;
-    let mut parts = Parts::new(rt.alloc(), Cursor::new(bytes.as_slice()), wide_info(16), 0)?;
+    let mut parts = Parts::new(
+        rt.alloc(),
+        Cursor::new(bytes.as_slice()),
+        Some(wide_info(16)),
+        0,
+    )?;
     let unsearched = unsearched_in_damage(&mut parts);
     assert!(rt; matches!(unsearched, Some(935..=937)), "{unsearched:?}");
     assert!(rt; is_any_frame(&mut parts) && is_end(&mut parts));
@@ -102,7 +107,12 @@ fn total_of<R: ReadBytes>(parts: &mut Parts<R>) -> Option<Total> {
 #[test]
 fn frames_over_budget(rt: HostRuntime) -> Result<(), Fail> {
     let bytes = frames_and_headers(rt.alloc())?;
-    let mut parts = Parts::new(rt.alloc(), Cursor::new(bytes.as_slice()), wide_info(16), 0)?;
+    let mut parts = Parts::new(
+        rt.alloc(),
+        Cursor::new(bytes.as_slice()),
+        Some(wide_info(16)),
+        0,
+    )?;
     let total = total_of(&mut parts).ok_or("parts")?;
     assert!(rt; total.end == bytes.len() as u64);
     assert!(rt; total.frames <= 66, "{}", total.frames);

@@ -82,7 +82,7 @@ fn fails_once<R: ReadBytes>(parts: &mut Parts<R>) -> bool {
 fn survives(alloc: Global, bytes: &[u8], reads: u32) -> claxon::Result<bool> {
     let source = FailsOnce::new(bytes, 3, reads, ErrorKind::Other);
     let input = BufferedReader::new(alloc, source)?;
-    let mut parts = Parts::new(alloc, input, INFO, 0)?;
+    let mut parts = Parts::new(alloc, input, Some(INFO), 0)?;
     Ok(fails_once(&mut parts))
 }
 

@@ -10,4 +10,6 @@ mod frames;
 #[cfg(test)]
 mod long_frames;
 #[cfg(test)]
+mod next_frames;
+#[cfg(test)]
 mod parts;

@@ -97,7 +97,7 @@ fn are_parts<R: ReadBytes>(parts: &mut Parts<R>, samples: u16) -> bool {
 fn are_found(alloc: Global, samples: u16, max_block_size: u16) -> claxon::Result<bool> {
     let bytes = twice(alloc, samples)?;
     let info = wide_info(max_block_size);
-    let mut parts = Parts::new(alloc, Cursor::new(bytes.as_slice()), info, 0)?;
+    let mut parts = Parts::new(alloc, Cursor::new(bytes.as_slice()), Some(info), 0)?;
     Ok(are_parts(&mut parts, samples))
 }
 
@@ -132,7 +132,12 @@ fn is_too_long<R: ReadBytes>(parts: &mut Parts<R>, end: u64) -> bool {
 fn of_larger_blocks_than_the_streaminfo_says(rt: HostRuntime) -> Result<(), Fail> {
     assert!(rt; are_found(rt.alloc(), 21_844, 16)?);
     let bytes = twice(rt.alloc(), 30_000)?;
-    let mut parts = Parts::new(rt.alloc(), Cursor::new(bytes.as_slice()), wide_info(16), 7)?;
+    let mut parts = Parts::new(
+        rt.alloc(),
+        Cursor::new(bytes.as_slice()),
+        Some(wide_info(16)),
+        7,
+    )?;
     assert!(rt; is_too_long(&mut parts, 7 + 2 * len_of(30_000) + 5));
     assert!(rt; is_end(&mut parts));
     Ok(())

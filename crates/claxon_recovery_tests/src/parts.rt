@@ -17,7 +17,7 @@ pub const FRAMES: [u8; 22] = [
 
 // The second one, with two channels.
 #[rattlefmt::skip]
-const OF_TWO_CHANNELS: [u8; 13] =
+pub const OF_TWO_CHANNELS: [u8; 13] =
     [0xff, 0xf8, 0x69, 0x12, 0x01, 0x0f, 0x00, 0x00, 0x09, 0x00, 0x09, 0xa8, 0xdf];
 
 /// Of such frames.
@@ -96,7 +96,7 @@ fn are_next<R: ReadBytes>(parts: &mut Parts<R>, wanted: &[Wanted]) -> bool {
 
 // Whether the bytes, of which the first is at this position, have just these parts.
 fn has_parts(alloc: Global, bytes: &[u8], start: u64, wanted: &[Wanted]) -> bool {
-    match Parts::new(alloc, Cursor::new(bytes), INFO, start) {
+    match Parts::new(alloc, Cursor::new(bytes), Some(INFO), start) {
         Ok(parts) => {
             let mut parts = parts;
             are_next(&mut parts, wanted)
@@ -105,16 +105,16 @@ fn has_parts(alloc: Global, bytes: &[u8], start: u64, wanted: &[Wanted]) -> bool
     }
 }
 
-const FIRST: &[u8] = &[
+pub const FIRST: &[u8] = &[
     0xff, 0xf8, 0x69, 0x02, 0x00, 0x0f, 0xb7, 0x00, 0x01, 0x7a, 0x27,
 ];
 
-const SECOND: &[u8] = &[
+pub const SECOND: &[u8] = &[
     0xff, 0xf8, 0x69, 0x02, 0x01, 0x0f, 0xa2, 0x00, 0x02, 0x7b, 0x51,
 ];
 
 // The first frame with a wrong byte of the footer, without its last two bytes, and without its first two.
-const WRONG_FOOTER: &[u8] = &[
+pub const WRONG_FOOTER: &[u8] = &[
     0xff, 0xf8, 0x69, 0x02, 0x00, 0x0f, 0xb7, 0x00, 0x01, 0x7a, 0x26,
 ];
 
@@ -123,7 +123,7 @@ const WITHOUT_FOOTER: &[u8] = &[0xff, 0xf8, 0x69, 0x02, 0x00, 0x0f, 0xb7, 0x00, 
 const WITHOUT_SYNC: &[u8] = &[0x69, 0x02, 0x00, 0x0f, 0xb7, 0x00, 0x01, 0x7a, 0x27];
 
 // The second frame without its last byte.
-const CUT: &[u8] = &[0xff, 0xf8, 0x69, 0x02, 0x01, 0x0f, 0xa2, 0x00, 0x02, 0x7b];
+pub const CUT: &[u8] = &[0xff, 0xf8, 0x69, 0x02, 0x01, 0x0f, 0xa2, 0x00, 0x02, 0x7b];
 
 // Pieces of a stream, and its parts.
 #[rattlefmt::skip]

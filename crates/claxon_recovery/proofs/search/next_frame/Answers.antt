@@ -8,7 +8,7 @@ use Rattle.claxon_recovery.proofs.search.next_frame.Goals as goal
 
 pub loop-position-preserved-then-shows_no_header : goal.loop-position-preserved-then-shows_no_header
 loop-position-preserved-then-shows_no_header c =
-    let info = c.args.info in
+    let info = c.args.known in
     let bytes = c.args.bytes.now in
     let at = c.loop-position.position in
     record {
@@ -21,12 +21,12 @@ pub returns-in-Whole-clause-is_there : goal.returns-in-Whole-clause-is_there
 returns-in-Whole-clause-is_there c = (
   c.loop-position.invariant.none,
   c.loop-position-test.true,
-  subst (BeginsWithStreamFrame c.args.info) (rest_is c.args.bytes.now c.loop-position.position) (rw c.in-Whole.is at c.in_ok-try_frame.ensures.is_there),
+  subst (BeginsWithStreamFrame c.args.known) (rest_is c.args.bytes.now c.loop-position.position) (rw c.in-Whole.is at c.in_ok-try_frame.ensures.is_there),
 )
 
 pub loop-position-preserved : goal.loop-position-preserved
 loop-position-preserved c =
-    let info = c.args.info in
+    let info = c.args.known in
     let bytes = c.args.bytes.now in
     let at = c.loop-position.position in
     record {
@@ -39,14 +39,14 @@ pub returns-in-Cut-clause-is_there : goal.returns-in-Cut-clause-is_there
 returns-in-Cut-clause-is_there c = (
   c.loop-position.invariant.none,
   omega (arith, c.loop-position-test.true),
-  subst (EndsEarly c.args.info) (rest_is c.args.bytes.now c.loop-position.position) (rw c.in-Cut.is at c.in_ok-try_frame.ensures.is_there),
+  subst (EndsEarly c.args.known) (rest_is c.args.bytes.now c.loop-position.position) (rw c.in-Cut.is at c.in_ok-try_frame.ensures.is_there),
 )
 
 pub returns-clause-is_there : goal.returns-clause-is_there
 returns-clause-is_there c = (
   λ at before. c.loop-position.invariant.none at (omega (arith, before, c.loop-position-test.false)),
   omega arith,
-  ends_at_end c.args.info c.args.bytes.now,
+  ends_at_end c.args.known c.args.bytes.now,
 )
 
 pub returns-in-Whole-clause-is_counted : goal.returns-in-Whole-clause-is_counted

@@ -5,7 +5,7 @@ use Rattle.claxon_recovery.proofs.search.next_frame.Given as goal
 
 abbrev pub invariant-loop-position : goal.invariant-loop-position
 invariant-loop-position l = record {
-  none : NoneBefore l.info l.bytes l.position;
+  none : NoneBefore l.known l.bytes l.position;
   memory : l.memory ≡ l.fn.memory;
   counted : CountsUnsearched 0 l.fn.budget l.budget;
 }

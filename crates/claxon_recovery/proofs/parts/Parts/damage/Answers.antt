@@ -16,7 +16,7 @@ loop-init g c =
     let old = c.args.self.now in
     let taken = c.take-passed.ensures in
     record {
-      passes = first_passed g.R.ReadBytes.source c.args.cause old c.take-passed.new.self c.new.result c.take-passed.result c.first_step.result c.first_step.ensures c.requires (old.stream.min_bit_depth, old.stream.max_bit_depth) c.new.ensures taken.passes taken.keeps_stream taken.takes;
+      passes = first_passed g.R.ReadBytes.source c.args.cause old c.take-passed.new.self c.new.result c.take-passed.result c.first_step.result c.first_step.ensures c.requires old.stream.has_bit_depth c.new.ensures taken.passes taken.keeps_stream taken.takes;
       memory = taken.passes.memory_is;
       counted = first_counted (unsearched_positions old.budget) _ _ _ (step_unsearched (first_step c.args.cause) 0) taken.passes.searched (taken.takes [] 0 c.new.ensures).count (ap (λ (step : Step). step_unsearched step 0) c.first_step.ensures);
     }

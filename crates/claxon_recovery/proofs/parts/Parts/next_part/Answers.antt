@@ -8,4 +8,4 @@ pub returns-clause-err_is_excused : goal.returns-clause-err_is_excused
 returns-clause-err_is_excused g c = given_excused g.R.ReadBytes.source c.args.self.now _ c.next_part_exact.result c.next_part_exact.ensures.gives
 
 pub returns-clause-frame_is_found : goal.returns-clause-frame_is_found
-returns-clause-frame_is_found g c = given_found g.R.ReadBytes.source c.args.self.now (c.args.self.now.stream.min_bit_depth, c.args.self.now.stream.max_bit_depth) _ c.next_part_exact.result c.next_part_exact.ensures.gives
+returns-clause-frame_is_found g c = given_found g.R.ReadBytes.source c.args.self.now c.args.self.now.stream.has_bit_depth _ c.next_part_exact.result c.next_part_exact.ensures.gives

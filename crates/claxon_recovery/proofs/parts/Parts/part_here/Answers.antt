@@ -2,7 +2,7 @@ use Rattle.std.proofs.Common.{ℕ, List, ◌≤◌, ◌∙◌, ap, length, refl,
 use Rattle.std.proofs.lemmas.Bool.Decides.{nat_tests}
 use Rattle.std.proofs.lemmas.Result.{err_from_is_err_and}
 use Rattle.claxon_recovery.specs.Kept.{most_kept}
-use Rattle.claxon_recovery.specs.Parts.{parts_info}
+use Rattle.claxon_recovery.specs.Parts.{parts_known}
 use Rattle.claxon_recovery.specs.Window.{bytes_left, pending, window_source}
 use Rattle.claxon_recovery.proofs.Charges.{counts_both, counts_cause}
 use Rattle.claxon_recovery.proofs.Reading.{fails_after}
@@ -18,30 +18,30 @@ returns-in_err-is_full-clause-gives g c =
 pub returns-in-Found-clause-gives : goal.returns-in-Found-clause-gives
 returns-in-Found-clause-gives g c = (
   stays_more g.R.ReadBytes.source _ c.loop-is_full.self _ c.loop-is_full.invariant.stays c.loop-is_full.wanted _ c.in_ok-is_full.ensures.ok refl,
-  same_answer c.info-info.ensures.info c.pending-bytes.ensures c.in-Found.is c.in_ok-len.ensures.is_there,
+  same_answer c.known-known.ensures.known c.pending-bytes.ensures c.in-Found.is c.in_ok-len.ensures.is_there,
 )
 
 pub returns-in-NoFrame-clause-gives : goal.returns-in-NoFrame-clause-gives
 returns-in-NoFrame-clause-gives g c = (
   stays_more g.R.ReadBytes.source _ c.loop-is_full.self _ c.loop-is_full.invariant.stays c.loop-is_full.wanted _ c.in_ok-is_full.ensures.ok refl,
   (let some : 1 ≤ length (pending c.fill.new.self) = grind (arith, nat_tests, c.is_empty.ensures, c.if-is_empty.false, c.pending-bytes.ensures) in some),
-  λ known. cause_longer (parts_info c.args.self.now) c.in-NoFrame.cause (pending c.fill.new.self) (bytes_left (g.R.ReadBytes.source (window_source c.fill.new.self))) (same_answer c.info-info.ensures.info c.pending-bytes.ensures c.in-NoFrame.is c.in_ok-len.ensures.is_there),
+  λ known. cause_longer (parts_known c.args.self.now) c.in-NoFrame.cause (pending c.fill.new.self) (bytes_left (g.R.ReadBytes.source (window_source c.fill.new.self))) (same_answer c.known-known.ensures.known c.pending-bytes.ensures c.in-NoFrame.is c.in_ok-len.ensures.is_there),
 )
 
 pub returns-in-Undecided-clause-gives : goal.returns-in-Undecided-clause-gives
 returns-in-Undecided-clause-gives g c = (
   stays_more g.R.ReadBytes.source _ c.loop-is_full.self _ c.loop-is_full.invariant.stays c.loop-is_full.wanted _ c.in_ok-is_full.ensures.ok refl,
   (let some : 1 ≤ length (pending c.fill.new.self) = grind (arith, nat_tests, c.is_empty.ensures, c.if-is_empty.false, c.pending-bytes.ensures) in some),
-  λ known. cut_here g.R.ReadBytes.source _ c.loop-is_full.self (record c.loop-is_full.self { window = c.fill.new.self; most = c.fill.ensures.most ∙ c.loop-is_full.self.most }) c.loop-is_full.invariant.stays c.loop-is_full.wanted _ c.in_ok-is_full.ensures.ok (parts_info c.args.self.now) c.if-not-is_full.true
-      (same_answer c.info-info.ensures.info c.pending-bytes.ensures c.in-Undecided.is c.in_ok-len.ensures.is_there) known,
+  λ known. cut_here g.R.ReadBytes.source _ c.loop-is_full.self (record c.loop-is_full.self { window = c.fill.new.self; most = c.fill.ensures.most ∙ c.loop-is_full.self.most }) c.loop-is_full.invariant.stays c.loop-is_full.wanted _ c.in_ok-is_full.ensures.ok (parts_known c.args.self.now) c.if-not-is_full.true
+      (same_answer c.known-known.ensures.known c.pending-bytes.ensures c.in-Undecided.is c.in_ok-len.ensures.is_there) known,
 )
 
 pub returns-in-Undecided-2-clause-gives : goal.returns-in-Undecided-2-clause-gives
 returns-in-Undecided-2-clause-gives g c = (
   stays_more g.R.ReadBytes.source _ c.loop-is_full.self _ c.loop-is_full.invariant.stays c.loop-is_full.wanted _ c.in_ok-is_full.ensures.ok refl,
   (let some : 1 ≤ length (pending c.fill.new.self) = grind (arith, nat_tests, c.is_empty.ensures, c.if-is_empty.false, c.pending-bytes.ensures) in some),
-  λ known. long_here g.R.ReadBytes.source _ c.loop-is_full.self (record c.loop-is_full.self { window = c.fill.new.self; most = c.fill.ensures.most ∙ c.loop-is_full.self.most }) c.loop-is_full.invariant.stays c.loop-is_full.wanted _ c.in_ok-is_full.ensures.ok (parts_info c.args.self.now) c.if-not-is_full.false (c.if-wanted-most.true ∙ c.most_kept-most.ensures.is)
-      (same_answer c.info-info.ensures.info c.pending-bytes.ensures c.in-Undecided.is c.in_ok-len.ensures.is_there),
+  λ known. long_here g.R.ReadBytes.source _ c.loop-is_full.self (record c.loop-is_full.self { window = c.fill.new.self; most = c.fill.ensures.most ∙ c.loop-is_full.self.most }) c.loop-is_full.invariant.stays c.loop-is_full.wanted _ c.in_ok-is_full.ensures.ok (parts_known c.args.self.now) c.if-not-is_full.false (c.if-wanted-most.true ∙ c.most_kept-most.ensures.is)
+      (same_answer c.known-known.ensures.known c.pending-bytes.ensures c.in-Undecided.is c.in_ok-len.ensures.is_there),
 )
 
 pub fill-requires : goal.fill-requires
@@ -50,7 +50,7 @@ fill-requires g c = subst (λ (k : ℕ). c.loop-is_full.wanted ≤ k) (sym (c.lo
 pub pass_long-requires : goal.pass_long-requires
 pass_long-requires g c =
     let n = filled g.R.ReadBytes.source c.loop-is_full.wanted c.loop-is_full.self.window c.fill.new.self _ c.in_ok-is_full.ensures.ok c.if-not-is_full.false in
-    let most = c.if-wanted-most.true ∙ c.most_kept-most.ensures.is ∙ ap most_kept (sym c.info-info.ensures.info) in
+    let most = c.if-wanted-most.true ∙ c.most_kept-most.ensures.is ∙ ap most_kept (sym c.known-known.ensures.known) in
     let long = subst (λ (l : List ℕ). c.loop-is_full.wanted ≤ length l) (sym c.pending-bytes.ensures) n in
     (rw c.in-Undecided.is at c.in_ok-len.ensures.is_there, subst (λ (k : ℕ). k ≤ length c.pending-bytes.result.now) most long)
 
@@ -58,7 +58,7 @@ pub returns-in-Found-clause-is_counted : goal.returns-in-Found-clause-is_counted
 returns-in-Found-clause-is_counted g c = counts_both 0 _ _ _ c.loop-is_full.invariant.counted c.in_ok-len.ensures.searched
 
 pub returns-in-NoFrame-clause-is_counted : goal.returns-in-NoFrame-clause-is_counted
-returns-in-NoFrame-clause-is_counted g c = counts_cause c.info-info.result c.in-NoFrame.cause c.pending-bytes.result.now _ _ (rw c.in-NoFrame.is at c.in_ok-len.ensures.is_there) (counts_both 0 _ _ _ c.loop-is_full.invariant.counted c.in_ok-len.ensures.searched)
+returns-in-NoFrame-clause-is_counted g c = counts_cause c.known-known.result c.in-NoFrame.cause c.pending-bytes.result.now _ _ (rw c.in-NoFrame.is at c.in_ok-len.ensures.is_there) (counts_both 0 _ _ _ c.loop-is_full.invariant.counted c.in_ok-len.ensures.searched)
 
 pub returns-in-Undecided-clause-is_counted : goal.returns-in-Undecided-clause-is_counted
 returns-in-Undecided-clause-is_counted g c = counts_both 0 _ _ _ c.loop-is_full.invariant.counted c.in_ok-len.ensures.searched

@@ -2,7 +2,7 @@ use Rattle.std.proofs.Common.{ℕ, List, ◌≡◌, ◌∙◌, ◌≤◌, ◌+�
 use Rattle.std.proofs.lemmas.Result.{err_from_is_err_and}
 use Rattle.claxon_recovery.specs.AtStart.{EndsEarly}
 use Rattle.claxon_recovery.specs.Kept.{most_kept}
-use Rattle.claxon_recovery.specs.Parts.{parts_info}
+use Rattle.claxon_recovery.specs.Parts.{parts_known}
 use Rattle.claxon_recovery.specs.Window.{pending}
 use Rattle.claxon_recovery.proofs.Charges.{counts_both}
 use Rattle.claxon_recovery.proofs.Positions.{step_over_header, step_to_frame, step_up_to}
@@ -19,7 +19,7 @@ returns-in_err-is_full-clause-gives g c =
 
 pub returns-in-Frame-clause-gives : goal.returns-in-Frame-clause-gives
 returns-in-Frame-clause-gives g c =
-    let there = same_next c.info-info.ensures.info c.pending-bytes.ensures c.in-Frame.is c.in_ok-at.ensures.is_there in
+    let there = same_next c.known-known.ensures.known c.pending-bytes.ensures c.in-Frame.is c.in_ok-at.ensures.is_there in
     rw c.last_step.ensures (
       stays_more g.R.ReadBytes.source _ c.loop-is_full.self _ c.loop-is_full.invariant.stays c.loop-is_full.wanted _ c.in_ok-is_full.ensures.ok refl,
       omega (arith, there.1),
@@ -29,7 +29,7 @@ returns-in-Frame-clause-gives g c =
 
 pub returns-in-OverBudget-clause-gives : goal.returns-in-OverBudget-clause-gives
 returns-in-OverBudget-clause-gives g c =
-    let there = same_next c.info-info.ensures.info c.pending-bytes.ensures c.in-OverBudget.is c.in_ok-at.ensures.is_there in
+    let there = same_next c.known-known.ensures.known c.pending-bytes.ensures c.in-OverBudget.is c.in_ok-at.ensures.is_there in
     rw c.passed_step.ensures (
       stays_more g.R.ReadBytes.source _ c.loop-is_full.self _ c.loop-is_full.invariant.stays c.loop-is_full.wanted _ c.in_ok-is_full.ensures.ok refl,
       omega (arith, there.1),
@@ -39,7 +39,7 @@ returns-in-OverBudget-clause-gives g c =
 
 pub returns-in-Undecided-clause-gives : goal.returns-in-Undecided-clause-gives
 returns-in-Undecided-clause-gives g c =
-    let there = same_next c.info-info.ensures.info c.pending-bytes.ensures c.in-Undecided.is c.in_ok-at.ensures.is_there in
+    let there = same_next c.known-known.ensures.known c.pending-bytes.ensures c.in-Undecided.is c.in_ok-at.ensures.is_there in
     let end = c.if-at-len.true ∙ ap length c.pending-bytes.ensures in
     rw c.last_step-in-Undecided.ensures (
       stays_more g.R.ReadBytes.source _ c.loop-is_full.self _ c.loop-is_full.invariant.stays c.loop-is_full.wanted _ c.in_ok-is_full.ensures.ok refl,
@@ -50,7 +50,7 @@ returns-in-Undecided-clause-gives g c =
 
 pub returns-in-Undecided-2-clause-gives : goal.returns-in-Undecided-2-clause-gives
 returns-in-Undecided-2-clause-gives g c =
-    let there = same_next c.info-info.ensures.info c.pending-bytes.ensures c.in-Undecided.is c.in_ok-at.ensures.is_there in
+    let there = same_next c.known-known.ensures.known c.pending-bytes.ensures c.in-Undecided.is c.in_ok-at.ensures.is_there in
     let full = c.if-not-is_full-2.true in
     let few : c.in-Undecided.at + 1 ≤ length (pending c.fill.new.self) = elim c.if-not-is_full.branch [
       | then-not-is_full+else-at-len w ↦ (let size = ap length c.pending-bytes.ensures in omega (arith, w.if-at-len.false, size, there.1))
@@ -65,7 +65,7 @@ returns-in-Undecided-2-clause-gives g c =
 
 pub returns-in-Undecided-3-clause-gives : goal.returns-in-Undecided-3-clause-gives
 returns-in-Undecided-3-clause-gives g c =
-    let there = same_next c.info-info.ensures.info c.pending-bytes.ensures c.in-Undecided.is c.in_ok-at.ensures.is_there in
+    let there = same_next c.known-known.ensures.known c.pending-bytes.ensures c.in-Undecided.is c.in_ok-at.ensures.is_there in
     rw c.searched_step-in-Undecided-3.ensures (
       stays_more g.R.ReadBytes.source _ c.loop-is_full.self _ c.loop-is_full.invariant.stays c.loop-is_full.wanted _ c.in_ok-is_full.ensures.ok refl,
       there.1,
@@ -75,13 +75,13 @@ returns-in-Undecided-3-clause-gives g c =
 
 pub returns-in-Undecided-4-clause-gives : goal.returns-in-Undecided-4-clause-gives
 returns-in-Undecided-4-clause-gives g c =
-    let there = same_next c.info-info.ensures.info c.pending-bytes.ensures c.in-Undecided.is c.in_ok-at.ensures.is_there in
+    let there = same_next c.known-known.ensures.known c.pending-bytes.ensures c.in-Undecided.is c.in_ok-at.ensures.is_there in
     let full = c.if-not-is_full-2.false in
     let most = c.if-wanted-most.true ∙ c.most_kept-most.ensures.is in
     let zero : c.in-Undecided.at ≡ 0 = omega (arith, c.if-at-gt0.false) in
     rw c.passed_step-in-Undecided-4.ensures (
       stays_more g.R.ReadBytes.source _ c.loop-is_full.self _ c.loop-is_full.invariant.stays c.loop-is_full.wanted _ c.in_ok-is_full.ensures.ok refl,
-      long_count g.R.ReadBytes.source _ c.loop-is_full.self (record c.loop-is_full.self { window = c.fill.new.self; most = c.fill.ensures.most ∙ c.loop-is_full.self.most }) c.loop-is_full.invariant.stays c.loop-is_full.wanted _ c.in_ok-is_full.ensures.ok (parts_info c.args.self.now) c.in-Undecided.at full most zero,
+      long_count g.R.ReadBytes.source _ c.loop-is_full.self (record c.loop-is_full.self { window = c.fill.new.self; most = c.fill.ensures.most ∙ c.loop-is_full.self.most }) c.loop-is_full.invariant.stays c.loop-is_full.wanted _ c.in_ok-is_full.ensures.ok (parts_known c.args.self.now) c.in-Undecided.at full most zero,
       λ e. omega arith,
       λ known. long_step g.R.ReadBytes.source _ c.loop-is_full.self (record c.loop-is_full.self { window = c.fill.new.self; most = c.fill.ensures.most ∙ c.loop-is_full.self.most }) c.loop-is_full.invariant.stays c.loop-is_full.wanted _ c.in_ok-is_full.ensures.ok _ c.in-Undecided.at full most zero there.0 there.1 there.2,
     )
@@ -104,9 +104,9 @@ pass_long-requires g c =
     let there = rw c.in-Undecided.is at c.in_ok-at.ensures.is_there in
     let zero : c.in-Undecided.at ≡ 0 = omega (arith, c.if-at-gt0.false) in
     let n = filled g.R.ReadBytes.source c.loop-is_full.wanted c.loop-is_full.self.window c.fill.new.self _ c.in_ok-is_full.ensures.ok c.if-not-is_full-2.false in
-    let most = c.if-wanted-most.true ∙ c.most_kept-most.ensures.is ∙ ap most_kept (sym c.info-info.ensures.info) in
+    let most = c.if-wanted-most.true ∙ c.most_kept-most.ensures.is ∙ ap most_kept (sym c.known-known.ensures.known) in
     let long = subst (λ (l : List ℕ). c.loop-is_full.wanted ≤ length l) (sym c.pending-bytes.ensures) n in
-    (subst (λ (k : ℕ). EndsEarly c.info-info.result (drop k c.pending-bytes.result.now)) zero there.2, subst (λ (k : ℕ). k ≤ length c.pending-bytes.result.now) most long)
+    (subst (λ (k : ℕ). EndsEarly c.known-known.result (drop k c.pending-bytes.result.now)) zero there.2, subst (λ (k : ℕ). k ≤ length c.pending-bytes.result.now) most long)
 
 pub returns-in-Frame-clause-is_counted : goal.returns-in-Frame-clause-is_counted
 returns-in-Frame-clause-is_counted g c = rw c.last_step.ensures (counts_both 0 _ _ _ c.loop-is_full.invariant.counted (rw c.in-Frame.is at c.in_ok-at.ensures.is_counted))
