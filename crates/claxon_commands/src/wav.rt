@@ -270,7 +270,7 @@ fn write_rescued<Q: Files + AllocGlobal, R: Read + Drop, E: Write>(
     if !is_regular(&file) {
         return Err(Error::from(io::Error::from(ErrorKind::NotSeekable)));
     }
-    let mut parts = Parts::new(rt.alloc(), flac.input(), info, options.start)?;
+    let mut parts = Parts::new(rt.alloc(), flac.input(), Some(info), options.start)?;
     rescue_file(
         rt.alloc(),
         &mut parts,

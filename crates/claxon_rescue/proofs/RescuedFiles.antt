@@ -28,6 +28,9 @@ use Rattle.claxon_rescue.specs.declared.parts.Rescue.{Rescue}
 use Rattle.claxon_wav.specs.declared.writer.WavWriter.{WavWriter}
 use Rattle.claxon_wav.proofs.Converting.{file, judged}
 
+pub same_some : {A : Type 0} {a b : A} → Some a ≡ Some b → a ≡ b
+same_some {A} {a} e = ap (λ (o : Option A). unwrap_or o a) e
+
 module _ {R W : Type 0} (source : R → Source ℕ) (contents : W → Option (List ℕ)) (rules : Rules) (start : ℕ) (before after : Parts R) (old put new : WavWriter W) where
   pub written_file : (position : W → Option ℕ) (begun ended : Rescue) (r : Result (Unit {0}) Error) → PutsParts source contents rules start before after old put begun ended → FinishIsSound contents position r put new → FinishFlushes r put new → WriteIsSound source contents rules start before after old new position r begun ended
   written_file position begun ended (Err e) k finishes flushes = tt

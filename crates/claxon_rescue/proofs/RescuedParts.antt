@@ -5,7 +5,7 @@ use Rattle.claxon.specs.Errors.{Error as Cause}
 use Rattle.claxon.specs.Frame.{Block}
 use Rattle.claxon.specs.Source.{Source}
 use Rattle.claxon.specs.StreamInfos.{StreamInfo}
-use Rattle.claxon_recovery.specs.Parts.{IsPart, PartIsThere, PartStops, SourceIsKnown, after_part, parts_info, parts_memory, parts_position, parts_source, unread}
+use Rattle.claxon_recovery.specs.Parts.{IsPart, PartIsThere, PartStops, SourceIsKnown, after_part, parts_known, parts_memory, parts_position, parts_source, unread}
 use Rattle.claxon_recovery.specs.Window.{Reads}
 use Rattle.claxon_recovery.proofs.Reading.{reads_both, reads_none}
 use Rattle.claxon_recovery.specs.declared.part.Damage.{Damage}
@@ -39,8 +39,8 @@ use Rattle.claxon_rescue.proofs.Waited.{are_of_stream, decided_beyond, frames_bo
 
 -- ---- one part more
 
-pub are_more : (info : StreamInfo) (start : ℕ) (s k m : List ℕ) (parts : List Part) (part : Part) → AreParts info start s parts k → IsPart info (position_after start parts) k m (Some part) → AreParts info start s (parts ++ part ∷ []) m
-are_more info start s k m [] part are is = (m, subst (λ (x : List ℕ). IsPart info start x m (Some part)) (sym are) is, refl)
+pub are_more : (info : StreamInfo) (start : ℕ) (s k m : List ℕ) (parts : List Part) (part : Part) → AreParts info start s parts k → IsPart (Some info) (position_after start parts) k m (Some part) → AreParts info start s (parts ++ part ∷ []) m
+are_more info start s k m [] part are is = (m, subst (λ (x : List ℕ). IsPart (Some info) start x m (Some part)) (sym are) is, refl)
 are_more info start s k m (first ∷ parts) part are is = (are.0, are.1, are_more info (after_part start (Some first)) are.0 k m parts part are.2 is)
 
 pub position_more : (start : ℕ) (parts : List Part) (part : Part) → position_after start (parts ++ part ∷ []) ≡ after_part (position_after start parts) (Some part)
@@ -112,7 +112,7 @@ pub record SoFar {R W : Type 0} (source : R → Source ℕ) (contents : W → Op
   pub are_parts : SourceIsKnown source before → AreParts rules.info start (unread source before) parts (unread source now)
   pub at : parts_position now ≡ position_after start parts
   pub end_is : end ≡ position_after start parts
-  pub info : parts_info now ≡ rules.info
+  pub info : parts_known now ≡ Some rules.info
   pub gives : (later : List FrameThere) → FramesGive rules (first_due start) done (waiting_frames rescue.waiting ++ later) blocks lost rescue.due
   pub puts : PutsSamples contents blocks old new
   pub notes : NotesRanges lost begun.losses rescue.losses
@@ -121,7 +121,7 @@ pub record SoFar {R W : Type 0} (source : R → Source ℕ) (contents : W → Op
   pub memory : parts_memory now ≡ parts_memory before
 
 module _ {R W : Type 0} (source : R → Source ℕ) (contents : W → Option (List ℕ)) (rules : Rules) (start : ℕ) where
-  pub none_so_far : (before : Parts R) (old : WavWriter W) (begun : Rescue) → parts_position before ≡ start → parts_info before ≡ rules.info → begun.due ≡ first_due start → waiting_frames begun.waiting ≡ [] → SoFar source contents rules start before before old old begun begun start 0
+  pub none_so_far : (before : Parts R) (old : WavWriter W) (begun : Rescue) → parts_position before ≡ start → parts_known before ≡ Some rules.info → begun.due ≡ first_due start → waiting_frames begun.waiting ≡ [] → SoFar source contents rules start before before old old begun begun start 0
   none_so_far before old begun at info due waiting = record {
     parts = [];
     done = [];
@@ -146,8 +146,8 @@ module _ {R W : Type 0} (source : R → Source ℕ) (contents : W → Option (Li
 
   module _ (before now : Parts R) (old new : WavWriter W) (begun rescue : Rescue) (end count : ℕ) (h : SoFar source contents rules start before now old new begun rescue end count) where
     -- the part that is there
-    part_there : (next : Parts R) (part : Part) → PartIsThere source now next (Ok (Some part)) → SourceIsKnown source before → IsPart rules.info (position_after start h.parts) (unread source now) (unread source next) (Some part)
-    part_there next part there known = subst (λ (i : StreamInfo). IsPart i (position_after start h.parts) (unread source now) (unread source next) (Some part)) h.info (subst (λ (n : ℕ). IsPart (parts_info now) n (unread source now) (unread source next) (Some part)) h.at (there.0.is (h.known known)))
+    part_there : (next : Parts R) (part : Part) → PartIsThere source now next (Ok (Some part)) → SourceIsKnown source before → IsPart (Some rules.info) (position_after start h.parts) (unread source now) (unread source next) (Some part)
+    part_there next part there known = subst (λ (i : Option StreamInfo). IsPart i (position_after start h.parts) (unread source now) (unread source next) (Some part)) h.info (subst (λ (n : ℕ). IsPart (parts_known now) n (unread source now) (unread source next) (Some part)) h.at (there.0.is (h.known known)))
 
     next_at : (next : Parts R) (part : Part) → PartIsThere source now next (Ok (Some part)) → parts_position next ≡ position_after start (h.parts ++ part ∷ [])
     next_at next part there = there.1 ∙ ap (λ (n : ℕ). after_part n (Some part)) h.at ∙ sym (position_more start h.parts part)
@@ -171,7 +171,7 @@ module _ {R W : Type 0} (source : R → Source ℕ) (contents : W → Option (Li
           let waits : puts.rest ++ then_later ≡ waiting_frames after.waiting ++ later = sym (ap (λ (l : List FrameThere). l ++ later) puts.wait ∙ append_assoc puts.rest puts.adds later) in
           subst (λ (l : List FrameThere). FramesGive rules (first_due start) now_done l (h.blocks ++ k.blocks) (h.lost ++ k.lost) after.due) waits all
 
-      pub one_part : (stop : ℕ) → PartIsThere source now next (Ok (Some part)) → parts_info next ≡ parts_info now → parts_memory next ≡ parts_memory now → stop ≡ after_part 0 (Some part) → KeepsRoom new z → SoFar source contents rules start before next old z begun after stop (count + 1)
+      pub one_part : (stop : ℕ) → PartIsThere source now next (Ok (Some part)) → parts_known next ≡ parts_known now → parts_memory next ≡ parts_memory now → stop ≡ after_part 0 (Some part) → KeepsRoom new z → SoFar source contents rules start before next old z begun after stop (count + 1)
       one_part stop there info memory ends room = record {
         parts = h.parts ++ part ∷ [];
         done = now_done;

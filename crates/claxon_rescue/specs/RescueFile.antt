@@ -11,6 +11,7 @@ use Rattle.std.specs.Prelude.{
   [],
   length,
   Option,
+  Some,
   Result,
   unwrap_or,
 }
@@ -22,7 +23,7 @@ use Rattle.claxon.specs.StreamInfos.{StreamInfo}
 use Rattle.claxon_blocks.specs.Md5Verdict.{HasHashedBytes, Md5IsJudged}
 use Rattle.claxon_blocks.specs.declared.md5_verdict.Md5Verdict.{Md5Verdict}
 use Rattle.claxon_blocks.specs.declared.md5_verdict.Md5Verdict.TheVariants.{NotComputed}
-use Rattle.claxon_recovery.specs.Parts.{SourceIsKnown, parts_info, unread}
+use Rattle.claxon_recovery.specs.Parts.{SourceIsKnown, parts_known, unread}
 use Rattle.claxon_recovery.specs.declared.part.Part.{Part}
 use Rattle.claxon_recovery.specs.declared.parts.Parts.{Parts}
 use Rattle.claxon_wav.specs.Conversion.{
@@ -102,9 +103,10 @@ pub record IsRescuedTo {R W : Type 0} (source : R → Source ℕ) (contents : W 
       → CorrectsHeader contents position plan.layout (first_size plan) (planned_bytes plan blocks)
       (contents old) (contents new)
 
--- An Ok did so.
+-- An Ok did so, with the streaminfo of the parts.
 abbrev pub RescuesTo : {R W : Type 0} → (R → Source ℕ) → (W → Option (List ℕ)) → (W → Option ℕ)
     → Plan → RescueOptions → Parts R → W → Result Rescued Error → W → Type 0
 RescuesTo source contents position plan options input old result new =
-    IfOk result
-    (IsRescuedTo source contents position (parts_info input) plan options input old new)
+    IfOk result (λ rescued.
+    (info : StreamInfo) → parts_known input ≡ Some info
+    → IsRescuedTo source contents position info plan options input old new rescued)

@@ -29,7 +29,7 @@ use Rattle.claxon_rescue.specs.declared.losses.LostRange.{LostRange}
 abbrev pub AreParts : StreamInfo → ℕ → List ℕ → List Part → List ℕ → Type 0
 AreParts info start s [] m = s ≡ m
 AreParts info start s (part ∷ parts) m =
-    (rest : List ℕ) × IsPart info start s rest (Some part)
+    (rest : List ℕ) × IsPart (Some info) start s rest (Some part)
     × AreParts info (after_part start (Some part)) rest parts m
 
 -- the position after them

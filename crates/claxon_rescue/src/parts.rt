@@ -35,7 +35,7 @@ pub(crate) struct Rescue {
 
 impl Rescue {
     ghost use Rattle.claxon_command_line.specs.Progress.{SameErrors, StaysQuiet};
-    ghost use Rattle.claxon_recovery.specs.Parts.{parts_info, parts_position};
+    ghost use Rattle.claxon_recovery.specs.Parts.{parts_known, parts_position};
     ghost use Rattle.claxon_rescue.specs.PutParts.{
       MakeRoomIsSound,
       PutPartFaultIsSound,
@@ -70,7 +70,7 @@ impl Rescue {
     ) -> Result<()>
         requires has_bit_depth { HasBitDepth rules.now.info }
         requires is_file_of { IsFileOf rules.now.info wav.old }
-        requires same_info { parts_info parts.old ≡ rules.now.info }
+        requires same_info { parts_known parts.old ≡ Some rules.now.info }
         requires at_start { parts_position parts.old ≡ start }
         requires first { self.old.due ≡ first_due start }
         requires none_waits { waiting_frames self.old.waiting ≡ [] }
@@ -119,7 +119,7 @@ impl Rescue {
     ) -> Result<()>
         requires has_bit_depth { HasBitDepth rules.now.info }
         requires is_file_of { IsFileOf rules.now.info wav.old }
-        requires same_info { parts_info parts.old ≡ rules.now.info }
+        requires same_info { parts_known parts.old ≡ Some rules.now.info }
         requires at_start { parts_position parts.old ≡ start }
         requires first { self.old.due ≡ first_due start }
         requires none_waits { waiting_frames self.old.waiting ≡ [] }

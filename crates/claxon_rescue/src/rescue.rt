@@ -2,7 +2,7 @@
 ghost use Rattle.std.specs.Prelude.{◌≡◌, [], IfOk};
 ghost use Rattle.claxon.specs.ShownHead.{HasBitDepth};
 ghost use Rattle.claxon_blocks.specs.Md5Verdict.{HasHashedBytes};
-ghost use Rattle.claxon_recovery.specs.Parts.{parts_info, parts_position};
+ghost use Rattle.claxon_recovery.specs.Parts.{parts_known, parts_position};
 ghost use Rattle.claxon_command_line.specs.Progress.{SameErrors};
 ghost use Rattle.claxon_rescue.specs.RescueFile.{
   BeginsRescue,
@@ -64,7 +64,7 @@ pub fn rescue_file<R: ReadBytes, W: Write + Seek, E: Write>(
 ) -> Result<Rescued>
     requires has_bit_depth { HasBitDepth info }
     requires is_plan_for { IsPlanFor info plan }
-    requires same_info { parts_info parts.old ≡ info }
+    requires same_info { parts_known parts.old ≡ Some info }
     requires at_start { parts_position parts.old ≡ options.start }
     ensures rescues_to { RescuesTo R.source W.contents W.stream_position plan options
         parts.old file.old result file.new }

@@ -29,7 +29,7 @@ pub fn rescue<R: Read + Drop>(
     let mut flac = FlacReader::new(alloc, stream)?;
     let plan = Plan::of_stream(&flac, true)?;
     let info = flac.streaminfo();
-    let mut parts = Parts::new(alloc, flac.input(), info, 42)?;
+    let mut parts = Parts::new(alloc, flac.input(), Some(info), 42)?;
     let options = RescueOptions {
         start: 42,
         fills_gaps,

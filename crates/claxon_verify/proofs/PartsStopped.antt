@@ -20,7 +20,7 @@ use Rattle.claxon.specs.Source.{IsKnown, Source}
 use Rattle.claxon.specs.State.{State, bytes_in, RemainingIsKnown}
 use Rattle.claxon.specs.StreamInfos.{StreamInfo}
 use Rattle.claxon_input.proofs.Promises.{fault_is}
-use Rattle.claxon_recovery.specs.Parts.{BeginsParts, IsPart, PartStops, SourceIsKnown, after_part, parts_info, parts_position, parts_source, unread}
+use Rattle.claxon_recovery.specs.Parts.{BeginsParts, IsPart, PartStops, SourceIsKnown, after_part, parts_known, parts_position, parts_source, unread}
 use Rattle.claxon_recovery.specs.Runs.{FindsFrame}
 use Rattle.claxon_recovery.specs.Window.{Reads, bytes_left}
 use Rattle.claxon_recovery.specs.declared.part.Part.{Part}
@@ -74,7 +74,7 @@ module _ {R A : Type 0} {source : R → Source ℕ} {computes_md5 : Bool} {info 
   ])
 
   -- with a part more there are more than can be counted
-  pub part_exceeds : (new : Parts R) (part : Part) → (SourceIsKnown source mid → IsPart (parts_info mid) (parts_position mid) (unread source mid) (unread source new) (Some part)) → (SourceIsKnown source mid → FindsFrame (parts_info mid) (unread source mid) (unread source new) part) → parts_position new ≡ after_part (parts_position mid) (Some part)
+  pub part_exceeds : (new : Parts R) (part : Part) → (SourceIsKnown source mid → IsPart (parts_known mid) (parts_position mid) (unread source mid) (unread source new) (Some part)) → (SourceIsKnown source mid → FindsFrame (parts_known mid) (unread source mid) (unread source new) part) → parts_position new ≡ after_part (parts_position mid) (Some part)
       → (e : Error) → ExceedsPart part walk e → StopsWalk source info old new e
   part_exceeds new (IsDamage damage) is finds at e exceeds = absurd exceeds
   part_exceeds new (IsFrame there) is finds at e exceeds = inr (
@@ -167,7 +167,7 @@ memory_stops h known e is = inl (is, inr (begins_with_head h known))
 
 -- parts were read
 pub parts_stop : {R : Type 0} (source : R → Source ℕ) {a : State ℕ} (input : MutBor (RunningReader R BytesRead)) {head : FoundHead} {stream : Option StreamFormat} {start : ℕ} (h : HeadIsConsumed a (counted_bytes source input.now) head stream start) (known : RemainingIsKnown a) (info : StreamInfo) → head.info ≡ info_view info → (at : ℕ) → at ≡ start → at < 2 ^ 64 → (p q : Parts (MutBor (RunningReader R BytesRead)))
-    → BeginsParts input info at p → (e : Error) → StopsWalk (lent (running_source source update_position)) info p q e → StopsAfterHead a.remaining e
+    → BeginsParts input (Some info) at p → (e : Error) → StopsWalk (lent (running_source source update_position)) info p q e → StopsAfterHead a.remaining e
 unfolding bytes_in
 parts_stop source {a = a} input {start = start} h known info of_info at same small p q begins e stops =
     let s = lent (running_source source update_position) in

@@ -1,7 +1,7 @@
 -- What stands after the last frame of a stream that is verified by its parts.
 use Rattle.std.specs.Borrow.{MutBor}
 use Rattle.std.proofs.Common.{◌≡◌, ℕ, ◌^◌, ◌<◌, Bool, true, false, List, [], ◌++◌, None, Some, refl, sym, ap, subst, ◌∙◌, arith}
-use Rattle.std.specs.Prelude.{IsTrue, Option, Ok, Result, ◌↔◌}
+use Rattle.std.specs.Prelude.{IsTrue, Option, Ok, Result, ◌↔◌, Some}
 use Rattle.claxon.specs.DecodedFrame.{decoded_view}
 use Rattle.claxon.specs.Errors.{Error}
 use Rattle.claxon.specs.Frame.{StreamFormat}
@@ -14,7 +14,7 @@ use Rattle.claxon.specs.StreamInfos.{StreamInfo}
 use Rattle.claxon.specs.RunningReader.{running_inner, running_source}
 use Rattle.claxon.specs.RunningReaders.{RunningReader}
 use Rattle.claxon_blocks.specs.Md5Verdict.{HasHashedBytes, Md5IsJudged, Md5IsShown}
-use Rattle.claxon_recovery.specs.Parts.{BeginsParts, IsPart, SourceIsKnown, after_part, parts_info, parts_position, parts_source, unread}
+use Rattle.claxon_recovery.specs.Parts.{BeginsParts, IsPart, SourceIsKnown, after_part, parts_known, parts_position, parts_source, unread}
 use Rattle.claxon_recovery.specs.Runs.{AreSearched}
 use Rattle.claxon_recovery.specs.Window.{bytes_left}
 use Rattle.claxon_recovery.specs.declared.part.Damage.{Damage}
@@ -66,7 +66,7 @@ module _ {A : Type 0} (info : StreamInfo) {start : ℕ} {s : List ℕ} {at : ℕ
       subst (λ (k : ℕ). GoesOn k walk.scan.begun more.scan.begun) is
       (subst (λ (z : Scan). GoesOn damage.start walk.scan.begun z.begun) (sym (adds.why e).1) (part_goes_on (info_view info) walk.scan damage.start adds.what))
 
-  tail_part : (part : Part) (next : ℕ) → IsPart info at m n (Some part) → next ≡ after_part at (Some part) → AddsPart (info_view info) part walk more → KeepsPart more.scan.begun part walk.after more.after → TailOf start s next n more.scan.begun more.after
+  tail_part : (part : Part) (next : ℕ) → IsPart (Some info) at m n (Some part) → next ≡ after_part at (Some part) → AddsPart (info_view info) part walk more → KeepsPart more.scan.begun part walk.after more.after → TailOf start s next n more.scan.begun more.after
   tail_part (IsFrame there) next is end adds keeps =
       let first = first_is_255 is.bytes (follow is.bytes is.joined) (frame_syncs (Some (stream_with info)) (decoded_view there.frame).block is.bytes is.frame.0.0) in
       let goes = subst (λ (k : ℕ). GoesOn k walk.scan.begun more.scan.begun) is.start_is
@@ -75,10 +75,10 @@ module _ {A : Type 0} (info : StreamInfo) {start : ℕ} {s : List ℕ} {at : ℕ
   tail_part (IsDamage damage) next is end adds keeps =
       tail_more h is.bytes n is.joined next (end ∙ is.end_is) more.after more.scan.begun (damage_goes_on damage is.start_is adds.0 (is_byte_left damage) refl) (keeps is.bytes (follow is.bytes is.joined) is.first is.zeros)
 
-pub tail_so_far : {R A : Type 0} {source : R → Source ℕ} {info : StreamInfo} {old mid new : Parts R} {walk more : Walk A} → TailSoFar source old mid walk → parts_info mid ≡ info → (SourceIsKnown source old → SourceIsKnown source mid) → (part : Part) → (SourceIsKnown source mid → IsPart (parts_info mid) (parts_position mid) (unread source mid) (unread source new) (Some part))
+pub tail_so_far : {R A : Type 0} {source : R → Source ℕ} {info : StreamInfo} {old mid new : Parts R} {walk more : Walk A} → TailSoFar source old mid walk → parts_known mid ≡ Some info → (SourceIsKnown source old → SourceIsKnown source mid) → (part : Part) → (SourceIsKnown source mid → IsPart (parts_known mid) (parts_position mid) (unread source mid) (unread source new) (Some part))
     → parts_position new ≡ after_part (parts_position mid) (Some part) → AddsPart (info_view info) part walk more → KeepsPart more.scan.begun part walk.after more.after → TailSoFar source old new more
 tail_so_far {source = source} {info = info} {mid = mid} {new = new} {walk = walk} {more = more} h same known part is end adds keeps = record {
-  is = λ k bytes. tail_part info (unread source new) walk more bytes (h.is k bytes) part (parts_position new) (subst (λ (z : StreamInfo). IsPart z (parts_position mid) (unread source mid) (unread source new) (Some part)) same (is (known k))) end adds keeps;
+  is = λ k bytes. tail_part info (unread source new) walk more bytes (h.is k bytes) part (parts_position new) (subst (λ (z : Option StreamInfo). IsPart z (parts_position mid) (unread source mid) (unread source new) (Some part)) same (is (known k))) end adds keeps;
 }
 
 -- ---- the end
@@ -107,7 +107,7 @@ CountsToTail computes_md5 info start m walk =
     × NotesOfParts (info_view info) counted.parts counted.found walk.notes × (walk.scan ≡ scan_of (info_view info) counted.found) × (walk.end ≡ counted.end) × (AreBytes m.remaining → EndsWithTail ⊥ start m.remaining walk.scan.begun walk.after)
 
 -- from where the parts begin
-pub tail_from : {R A : Type 0} (source : R → Source ℕ) (computes_md5 : Bool) (info : StreamInfo) (start : ℕ) (input : MutBor (RunningReader R BytesRead)) (p : Parts (MutBor (RunningReader R BytesRead))) (walk : Walk A) → BeginsParts input info start p → WalksPartsToTail (lent (running_source source update_position)) computes_md5 info p walk → CountsToTail computes_md5 info start (counted_bytes source input.now) walk
+pub tail_from : {R A : Type 0} (source : R → Source ℕ) (computes_md5 : Bool) (info : StreamInfo) (start : ℕ) (input : MutBor (RunningReader R BytesRead)) (p : Parts (MutBor (RunningReader R BytesRead))) (walk : Walk A) → BeginsParts input (Some info) start p → WalksPartsToTail (lent (running_source source update_position)) computes_md5 info p walk → CountsToTail computes_md5 info start (counted_bytes source input.now) walk
 unfolding bytes_in
 tail_from source computes_md5 info start input p walk begins walks k counts counted =
     let s = lent (running_source source update_position) in

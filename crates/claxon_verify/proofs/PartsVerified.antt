@@ -1,6 +1,6 @@
 -- A whole stream that is verified by its parts: its head, and what was counted after it.
 use Rattle.std.specs.Borrow.{MutBor}
-use Rattle.std.proofs.Common.{◌≡◌, ◌⊎◌, ◌<◌, ◌^◌, ℕ, List, ◌++◌, sym, ap, arith, subst, ◌∙◌}
+use Rattle.std.proofs.Common.{◌≡◌, ◌⊎◌, ◌<◌, ◌^◌, ℕ, List, ◌++◌, sym, ap, arith, subst, ◌∙◌, Some}
 use Rattle.std.specs.Prelude.{Bool, false, IsTrue, Option, None, Result, Ok, ◌↔◌, ◌≢◌}
 use Rattle.claxon.specs.Errors.{Error}
 use Rattle.claxon.specs.Frame.{StreamFormat}
@@ -83,7 +83,7 @@ parts_verified {a} {m} {head} {stream} {start} h computes_md5 info walk report o
     }
 
 -- from where the parts begin
-pub counts_from : {R A : Type 0} (source : R → Source ℕ) (computes_md5 : Bool) (info : StreamInfo) (start : ℕ) (input : MutBor (RunningReader R BytesRead)) (p : Parts (MutBor (RunningReader R BytesRead))) (walk : Walk A) → BeginsParts input info start p → WalksParts (lent (running_source source update_position)) computes_md5 info p walk → CountsParts computes_md5 info start (counted_bytes source input.now) walk
+pub counts_from : {R A : Type 0} (source : R → Source ℕ) (computes_md5 : Bool) (info : StreamInfo) (start : ℕ) (input : MutBor (RunningReader R BytesRead)) (p : Parts (MutBor (RunningReader R BytesRead))) (walk : Walk A) → BeginsParts input (Some info) start p → WalksParts (lent (running_source source update_position)) computes_md5 info p walk → CountsParts computes_md5 info start (counted_bytes source input.now) walk
 unfolding bytes_in
 counts_from source computes_md5 info start input p walk begins walks k counts counted =
     let s = lent (running_source source update_position) in

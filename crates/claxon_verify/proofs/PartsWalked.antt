@@ -1,6 +1,6 @@
 -- Parts of a stream that are found, one after another.
 use Rattle.std.proofs.Common.{◌≡◌, ◌<◌, ◌≤◌, ◌+◌, ◌%◌, ◌^◌, ℕ, true, false, List, [], ◌∷◌, ◌++◌, length, inl, inr, refl, sym, ap, arith, subst, ◌∙◌, length-append, append_assoc}
-use Rattle.std.specs.Prelude.{Bool, Some, Ok, ◌↔◌}
+use Rattle.std.specs.Prelude.{Bool, Some, Ok, ◌↔◌, Option}
 use Rattle.std.specs.List.{sum_by}
 use Rattle.std.proofs.lemmas.List.{append-nil}
 use Rattle.std.proofs.lemmas.List.Sums.{sum_by_push}
@@ -10,7 +10,7 @@ use Rattle.claxon.specs.Source.{Source}
 use Rattle.claxon.specs.StreamInfos.{StreamInfo}
 use Rattle.claxon.specs.Streaminfo.{Streaminfo}
 use Rattle.claxon_blocks.specs.Md5Verdict.{HasHashedBytes}
-use Rattle.claxon_recovery.specs.Parts.{IsPart, SourceIsKnown, after_part, parts_info, parts_position, unread}
+use Rattle.claxon_recovery.specs.Parts.{IsPart, SourceIsKnown, after_part, parts_known, parts_position, unread}
 use Rattle.claxon_recovery.specs.Runs.{AreAnswered, AreSearched, FindsFrame, IsSearched}
 use Rattle.claxon_recovery.specs.declared.part.Damage.{Damage}
 use Rattle.claxon_recovery.specs.declared.part.FrameThere.{FrameThere}
@@ -39,16 +39,16 @@ after_same (IsFrame there) a b = refl
 after_same (IsDamage damage) a b = refl
 
 module _ (info : StreamInfo) where
-  pub answered_push : (start : ℕ) (s : List ℕ) (parts : List Part) (at : ℕ) (m : List ℕ) → AnsweredUpTo info start s parts at m → (part : Part) (n : List ℕ) → IsPart info at m n (Some part) → FindsFrame info m n part → AnsweredUpTo info start s (parts ++ part ∷ []) (after_part at (Some part)) n
+  pub answered_push : (start : ℕ) (s : List ℕ) (parts : List Part) (at : ℕ) (m : List ℕ) → AnsweredUpTo info start s parts at m → (part : Part) (n : List ℕ) → IsPart (Some info) at m n (Some part) → FindsFrame (Some info) m n part → AnsweredUpTo info start s (parts ++ part ∷ []) (after_part at (Some part)) n
   answered_push start s [] at m h part n is finds = (
     n,
-    subst (λ (k : ℕ). IsPart info k s n (Some part)) (sym h.1) (subst (λ (l : List ℕ). IsPart info at l n (Some part)) (sym h.0) is),
-    subst (λ (l : List ℕ). FindsFrame info l n part) (sym h.0) finds,
+    subst (λ (k : ℕ). IsPart (Some info) k s n (Some part)) (sym h.1) (subst (λ (l : List ℕ). IsPart (Some info) at l n (Some part)) (sym h.0) is),
+    subst (λ (l : List ℕ). FindsFrame (Some info) l n part) (sym h.0) finds,
     (refl, after_same part start at),
   )
   answered_push start s (first ∷ parts) at m h part n is finds = (h.0, h.1, h.2, answered_push (after_part start (Some first)) h.0 parts at m h.3 part n is finds)
 
-  pub answered_all : (start : ℕ) (s : List ℕ) (parts : List Part) (at : ℕ) (m : List ℕ) → AnsweredUpTo info start s parts at m → m ≡ [] → AreAnswered info start s parts
+  pub answered_all : (start : ℕ) (s : List ℕ) (parts : List Part) (at : ℕ) (m : List ℕ) → AnsweredUpTo info start s parts at m → m ≡ [] → AreAnswered (Some info) start s parts
   answered_all start s [] at m h none = h.0 ∙ none
   answered_all start s (part ∷ parts) at m h none = (h.0, h.1, h.2, answered_all (after_part start (Some part)) h.0 parts at m h.3 none)
 
@@ -107,7 +107,7 @@ pub record FoundSoFar {A : Type 0} (computes_md5 : Bool) (info : StreamInfo) (st
   pub noted : PartsNoted (info_view info) parts walk
 
 pub record PartsSoFar {R A : Type 0} (source : R → Source ℕ) (computes_md5 : Bool) (info : StreamInfo) (old new : Parts R) (count : ℕ) (walk : Walk A) : Type 0 where
-  pub info_is : parts_info new ≡ info
+  pub info_is : parts_known new ≡ Some info
   pub end_is : walk.end ≡ parts_position new
   pub known : SourceIsKnown source old → SourceIsKnown source new
   pub is : SourceIsKnown source old → FoundSoFar computes_md5 info (parts_position old) (unread source old) (parts_position new) (unread source new) count walk
@@ -127,7 +127,7 @@ with_end end walk = record {
   after = walk.after;
 }
 
-pub none_found : {R A : Type 0} (source : R → Source ℕ) (computes_md5 : Bool) (info : StreamInfo) (start more : ℕ) (old : Parts R) (walk : Walk A) → parts_info old ≡ info → parts_position old ≡ start → BeginsWalk computes_md5 more walk → NothingNoted walk → PartsSoFar source computes_md5 info old old 0 (with_end start walk)
+pub none_found : {R A : Type 0} (source : R → Source ℕ) (computes_md5 : Bool) (info : StreamInfo) (start more : ℕ) (old : Parts R) (walk : Walk A) → parts_known old ≡ Some info → parts_position old ≡ start → BeginsWalk computes_md5 more walk → NothingNoted walk → PartsSoFar source computes_md5 info old old 0 (with_end start walk)
 unfolding Rattle.claxon_md5.specs.WholeBytes.whole_bytes_of_samples
 none_found source computes_md5 info start more old walk same at begins none = record {
   info_is = same;
@@ -183,18 +183,18 @@ damage_found info damage found places walk more adds scan keeps false e =
     }
 
 -- one part more
-pub answered : {R A : Type 0} {source : R → Source ℕ} {computes_md5 : Bool} {info : StreamInfo} {old mid : Parts R} {count : ℕ} {walk : Walk A} (h : PartsSoFar source computes_md5 info old mid count walk) (new : Parts R) (part : Part) → (SourceIsKnown source mid → IsPart (parts_info mid) (parts_position mid) (unread source mid) (unread source new) (Some part)) → (SourceIsKnown source mid → FindsFrame (parts_info mid) (unread source mid) (unread source new) part)
+pub answered : {R A : Type 0} {source : R → Source ℕ} {computes_md5 : Bool} {info : StreamInfo} {old mid : Parts R} {count : ℕ} {walk : Walk A} (h : PartsSoFar source computes_md5 info old mid count walk) (new : Parts R) (part : Part) → (SourceIsKnown source mid → IsPart (parts_known mid) (parts_position mid) (unread source mid) (unread source new) (Some part)) → (SourceIsKnown source mid → FindsFrame (parts_known mid) (unread source mid) (unread source new) part)
     → parts_position new ≡ after_part (parts_position mid) (Some part) → (k : SourceIsKnown source old) → AnsweredUpTo info (parts_position old) (unread source old) ((h.is k).parts ++ part ∷ []) (parts_position new) (unread source new)
 answered {source = source} {info = info} {old = old} {mid = mid} h new part is finds at k =
     let p = h.is k in
-    let there = subst (λ (z : StreamInfo). IsPart z (parts_position mid) (unread source mid) (unread source new) (Some part)) h.info_is (is (h.known k)) in
-    let first = subst (λ (z : StreamInfo). FindsFrame z (unread source mid) (unread source new) part) h.info_is (finds (h.known k)) in
+    let there = subst (λ (z : Option StreamInfo). IsPart z (parts_position mid) (unread source mid) (unread source new) (Some part)) h.info_is (is (h.known k)) in
+    let first = subst (λ (z : Option StreamInfo). FindsFrame z (unread source mid) (unread source new) part) h.info_is (finds (h.known k)) in
     subst (λ (z : ℕ). AnsweredUpTo info (parts_position old) (unread source old) (p.parts ++ part ∷ []) z (unread source new)) (sym at)
     (answered_push info (parts_position old) (unread source old) p.parts (parts_position mid) (unread source mid) p.are part (unread source new) there first)
 
-module _ {R A : Type 0} {source : R → Source ℕ} {computes_md5 : Bool} {info : StreamInfo} {old mid new : Parts R} {count : ℕ} {walk more : Walk A} (h : PartsSoFar source computes_md5 info old mid count walk) (same : parts_info new ≡ parts_info mid) (known : SourceIsKnown source mid → SourceIsKnown source new) where
+module _ {R A : Type 0} {source : R → Source ℕ} {computes_md5 : Bool} {info : StreamInfo} {old mid new : Parts R} {count : ℕ} {walk more : Walk A} (h : PartsSoFar source computes_md5 info old mid count walk) (same : parts_known new ≡ parts_known mid) (known : SourceIsKnown source mid → SourceIsKnown source new) where
   -- a frame more
-  frame_more : (there : FrameThere) → (SourceIsKnown source mid → IsPart (parts_info mid) (parts_position mid) (unread source mid) (unread source new) (Some (IsFrame there))) → (SourceIsKnown source mid → FindsFrame (parts_info mid) (unread source mid) (unread source new) (IsFrame there)) → parts_position new ≡ there.end
+  frame_more : (there : FrameThere) → (SourceIsKnown source mid → IsPart (parts_known mid) (parts_position mid) (unread source mid) (unread source new) (Some (IsFrame there))) → (SourceIsKnown source mid → FindsFrame (parts_known mid) (unread source mid) (unread source new) (IsFrame there)) → parts_position new ≡ there.end
       → AddsFrame (info_view info) there.frame there.start walk more → more.end ≡ there.end → NotesFrame (info_view info) there.frame there.start there.end walk more → PartsSoFar source computes_md5 info old new (count + 1) more
   frame_more there is finds at adds end notes =
       let part : Part = IsFrame there in
@@ -228,7 +228,7 @@ module _ {R A : Type 0} {source : R → Source ℕ} {computes_md5 : Bool} {info 
       }
 
   -- damage more
-  damage_more : (damage : Damage) → (SourceIsKnown source mid → IsPart (parts_info mid) (parts_position mid) (unread source mid) (unread source new) (Some (IsDamage damage))) → (SourceIsKnown source mid → FindsFrame (parts_info mid) (unread source mid) (unread source new) (IsDamage damage)) → parts_position new ≡ damage.end
+  damage_more : (damage : Damage) → (SourceIsKnown source mid → IsPart (parts_known mid) (parts_position mid) (unread source mid) (unread source new) (Some (IsDamage damage))) → (SourceIsKnown source mid → FindsFrame (parts_known mid) (unread source mid) (unread source new) (IsDamage damage)) → parts_position new ≡ damage.end
       → AddsDamage (info_view info) damage walk more → NotesDamage damage walk more → PartsSoFar source computes_md5 info old new (count + 1) more
   damage_more damage is finds at adds notes =
       let part : Part = IsDamage damage in
@@ -259,7 +259,7 @@ module _ {R A : Type 0} {source : R → Source ℕ} {computes_md5 : Bool} {info 
       }
 
   -- a part more
-  pub part_more : (part : Part) → (SourceIsKnown source mid → IsPart (parts_info mid) (parts_position mid) (unread source mid) (unread source new) (Some part)) → (SourceIsKnown source mid → FindsFrame (parts_info mid) (unread source mid) (unread source new) part) → parts_position new ≡ after_part (parts_position mid) (Some part)
+  pub part_more : (part : Part) → (SourceIsKnown source mid → IsPart (parts_known mid) (parts_position mid) (unread source mid) (unread source new) (Some part)) → (SourceIsKnown source mid → FindsFrame (parts_known mid) (unread source mid) (unread source new) part) → parts_position new ≡ after_part (parts_position mid) (Some part)
       → AddsPart (info_view info) part walk more → PartsSoFar source computes_md5 info old new (count + 1) more
   part_more (IsFrame there) is finds at adds = frame_more there is finds at adds.0 adds.1 adds.2
   part_more (IsDamage damage) is finds at adds = damage_more damage is finds at adds.0 adds.1

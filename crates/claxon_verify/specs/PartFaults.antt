@@ -46,7 +46,7 @@ use Rattle.claxon_verify.specs.declared.walk.Walk.{Walk}
 abbrev pub AnsweredUpTo : StreamInfo → ℕ → List ℕ → List Part → ℕ → List ℕ → Type 0
 AnsweredUpTo info start s [] at m = (s ≡ m) × (start ≡ at)
 AnsweredUpTo info start s (part ∷ parts) at m =
-    (n : List ℕ) × IsPart info start s n (Some part) × FindsFrame info s n part
+    (n : List ℕ) × IsPart (Some info) start s n (Some part) × FindsFrame (Some info) s n part
     × AnsweredUpTo info (after_part start (Some part)) n parts at m
 
 -- They are too many to be counted: their frames have 2^64 samples, or there are 2^64 - 1 of them.

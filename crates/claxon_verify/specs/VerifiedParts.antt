@@ -1,5 +1,5 @@
 -- Streams that are verified by their parts: frames, and the damage between them.
-use Rattle.std.specs.Prelude.{◌≡◌, ◌⊎◌, ◌==◌, ◌&&◌, ◌↔◌, ℕ, ◌+◌, ◌%◌, ◌^◌, Bool, false, true, codes, IfOk, IsTrue, List, [], ◌∷◌, ◌++◌, length, map, None, Result, Ok, Err}
+use Rattle.std.specs.Prelude.{◌≡◌, ◌⊎◌, ◌==◌, ◌&&◌, ◌↔◌, ℕ, ◌+◌, ◌%◌, ◌^◌, Bool, false, true, codes, IfOk, IsTrue, List, [], ◌∷◌, ◌++◌, length, map, None, Result, Ok, Err, Some}
 use Rattle.std.specs.List.{sum_by}
 use Rattle.claxon.specs.DecodedFrame.{FrameValue, decoded_view}
 use Rattle.claxon.specs.Error.{IsIo}
@@ -152,7 +152,7 @@ pub record NotesOfParts (info : Streaminfo) (parts : List Part) (found : List Fo
 pub record PartsCounted (info : StreamInfo) (start : ℕ) (s : List ℕ) (counts : Counts) : Type 0
   where
     pub parts : List Part
-    pub are : AreAnswered info start s parts
+    pub are : AreAnswered (Some info) start s parts
     pub found : List FoundPart
     pub found_are : FoundAre (info_view info) parts found
     pub frames : counts.frames ≡ length (part_frames parts)

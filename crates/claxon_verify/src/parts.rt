@@ -4,7 +4,7 @@ ghost use Rattle.claxon.specs.MetadataBlock.{info_view};
 ghost use Rattle.claxon.specs.ShownHead.{HasBitDepth};
 ghost use Rattle.claxon.specs.State.{bytes_in};
 ghost use Rattle.claxon_command_line.specs.Progress.{StaysQuiet};
-ghost use Rattle.claxon_recovery.specs.Parts.{parts_info, parts_position};
+ghost use Rattle.claxon_recovery.specs.Parts.{parts_known, parts_position};
 ghost use Rattle.claxon_verify.specs.Trailing.{
   KeepsBytes,
   KeepsPart,
@@ -99,7 +99,7 @@ fn verify_counted_parts<R: ReadBytes, E: Write>(
     let (info, unsupported) = read_head(alloc, input)?;
     progress.start(info.samples);
     let start = input.value().bytes;
-    let mut parts = Parts::new(alloc, input, info, start)?;
+    let mut parts = Parts::new(alloc, input, Some(info), start)?;
     let walk = walk_parts(alloc, &mut parts, info, start, computes_md5, more, progress)?;
     Ok(report_of(info, unsupported, walk))
 }
@@ -115,7 +115,7 @@ fn walk_parts<R: ReadBytes, E: Write>(
     progress: &mut Progress<'_, '_, E>,
 ) -> Result<Walk<Global>>
     requires has_bit_depth { HasBitDepth info }
-    requires same_info { parts_info parts.old ≡ info }
+    requires same_info { parts_known parts.old ≡ Some info }
     requires at_start { parts_position parts.old ≡ start }
     ensures fits { start < 2 ^ 64 }
     ensures ok { IfOk result (WalksParts R.source computes_md5 info parts.old) }

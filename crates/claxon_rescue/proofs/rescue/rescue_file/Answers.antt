@@ -1,4 +1,4 @@
-use Rattle.std.proofs.Common.{◌≤◌, ◌∙◌, ap, rules as std_rules, subst, sym, [], ℕ}
+use Rattle.std.proofs.Common.{◌≡◌, ◌≤◌, ◌∙◌, ap, rules as std_rules, subst, sym, [], ℕ, Some}
 use Rattle.claxon.specs.ShownHead.{HasBitDepth}
 use Rattle.claxon.specs.StreamInfos.{StreamInfo}
 use Rattle.claxon_recovery.specs.Parts.{SourceIsKnown, unread}
@@ -12,7 +12,7 @@ use Rattle.claxon_wav.specs.Conversion.{planned_bytes}
 use Rattle.claxon_wav.specs.DataSize.{max_data_size}
 use Rattle.claxon_wav.specs.WaveFile.{wave_file}
 use Rattle.claxon_wav.proofs.Planned.{corrected_file, planned_file}
-use Rattle.claxon_rescue.proofs.RescuedFiles.{announced_fits, file_of, verdict_on}
+use Rattle.claxon_rescue.proofs.RescuedFiles.{announced_fits, file_of, same_some, verdict_on}
 use Rattle.claxon_wav.proofs.SampleCounts.{counted}
 use Rattle.claxon_rescue.proofs.rescue.rescue_file.Goals as goal
 
@@ -26,14 +26,14 @@ write-requires g c =
     record {
       has_bit_depth = subst HasBitDepth same c.requires.has_bit_depth;
       is_file_of = file_of c.args.info c.args.plan c.rules_of-rules.result c.start.new.self (sym same) layout c.requires.is_plan_for;
-      same_info = c.requires.same_info ∙ same;
+      same_info = c.requires.same_info ∙ ap (λ (i : StreamInfo). Some i) same;
       at_start = c.requires.at_start;
       first = c.in_ok-rescue.ensures.due_is;
       none_waits = c.in_ok-rescue.ensures.none_wait;
     }
 
 pub returns-clause-rescues_to : goal.returns-clause-rescues_to
-returns-clause-rescues_to g c =
+returns-clause-rescues_to g c = λ info known.
     let contents = g.W.Write.contents in
     let plan = c.args.plan in
     let options = c.args.options in
@@ -54,7 +54,7 @@ returns-clause-rescues_to g c =
     let n = corrected_file contents plan given.blocks c.new-wav.result c.start.new.self c.write.new.wav fresh.layout_is g.W.Seek.stream_position all.put c.unwrap_or.result c.unwrap_or.ensures begins given.puts all.ends in
     let m = rw (← w, fresh.counts.writer) at n in
     let left = c.file-2-1.given.1 e in
-    let info_is = sym c.requires.same_info in
+    let info_is : c.args.info ≡ info = same_some (sym c.requires.same_info ∙ known) in
     let kept = given.lost in
     let judged = c.rescued_of.result.conversion.md5 in
     record {

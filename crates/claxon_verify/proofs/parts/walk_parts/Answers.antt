@@ -3,7 +3,7 @@ use Rattle.std.proofs.lemmas.Result.{err_from_is_err_and}
 use Rattle.claxon.specs.MetadataBlock.{info_view}
 use Rattle.claxon_command_line.proofs.Showing.{shown_quietly, shown_total_same}
 use Rattle.claxon_recovery.proofs.Reading.{reads_both, reads_none}
-use Rattle.claxon_recovery.specs.Parts.{IsFrameOf, IsPart, after_part, parts_info, parts_position, unread}
+use Rattle.claxon_recovery.specs.Parts.{IsFrameOf, IsPart, after_part, parts_known, parts_position, unread}
 use Rattle.claxon_recovery.specs.declared.part.Part.{Part}
 use Rattle.claxon_verify.proofs.Walking.{none_few}
 use Rattle.claxon_verify.proofs.PartsStopped.{next_stops, part_exceeds}
@@ -33,7 +33,7 @@ loop-preserved g c =
     let few = part_few (info_view c.args.info) c.loop.walk c.in_ok-walk.walk c.in-Some.part adds c.loop.invariant.more c.loop.invariant.few in
     record {
       so_far = part_more c.loop.invariant.so_far c.next_part.ensures.keeps_stream (λ k. (there.0.reads.known k).known) c.in-Some.part
-          (λ k. subst (λ (z : Option Part). IsPart (parts_info mid) (parts_position mid) (unread source mid) (unread source new) z) is (there.0.is k))
+          (λ k. subst (λ (z : Option Part). IsPart (parts_known mid) (parts_position mid) (unread source mid) (unread source new) z) is (there.0.is k))
           (λ k value t rest code joined short. subst (λ (z : Option Part). IsFrameOf value z × (unread source new ≡ rest)) is (c.in_ok-part.ensures.frame_is_found k value t rest code joined short))
           (there.1 ∙ ap (λ (z : Option Part). after_part (parts_position mid) z) is) adds;
       reads = (c.loop.invariant.reads.0 ++ there.0.more, reads_both c.loop.invariant.reads.1 there.0.reads);
@@ -41,7 +41,7 @@ loop-preserved g c =
       total = shown_total_same c.loop.progress c.show.new.self _ c.show.ensures.shows_percentage ∙ c.loop.invariant.total;
       more = few.0;
       few = few.1;
-      tail = tail_so_far c.loop.invariant.tail c.loop.invariant.so_far.info_is c.loop.invariant.so_far.known c.in-Some.part (λ k. subst (λ (z : Option Part). IsPart (parts_info mid) (parts_position mid) (unread source mid) (unread source new) z) is (there.0.is k))
+      tail = tail_so_far c.loop.invariant.tail c.loop.invariant.so_far.info_is c.loop.invariant.so_far.known c.in-Some.part (λ k. subst (λ (z : Option Part). IsPart (parts_known mid) (parts_position mid) (unread source mid) (unread source new) z) is (there.0.is k))
           (there.1 ∙ ap (λ (z : Option Part). after_part (parts_position mid) z) is) adds c.in_ok-walk.ensures.keeps;
     }
 
@@ -53,7 +53,7 @@ returns-in_default-clause-ok g c =
     let there = c.in_ok-part.ensures.part_is_there in
     let at = c.requires.at_start in
     let fits = c.ranges.start.fits in
-    walked (omega (arith, at, fits)) c.loop.invariant.so_far (λ k. (subst (λ (z : Option Part). IsPart (parts_info mid) (parts_position mid) (unread source mid) (unread source new) z) c.in_default.is (there.0.is k)).0)
+    walked (omega (arith, at, fits)) c.loop.invariant.so_far (λ k. (subst (λ (z : Option Part). IsPart (parts_known mid) (parts_position mid) (unread source mid) (unread source new) z) c.in_default.is (there.0.is k)).0)
 
 pub returns-in_err-part-clause-err : goal.returns-in_err-part-clause-err
 returns-in_err-part-clause-err g c =
@@ -69,7 +69,7 @@ returns-in_err-walk-clause-err g c =
     let there = c.in_ok-part.ensures.part_is_there in
     let p = err_from_is_err_and c.from_residual-in_err-walk.result c.from_residual-in_err-walk.ensures.1 in
     rw (p.1, p.2) (part_exceeds c.loop.invariant.so_far new c.in-Some.part
-    (λ k. subst (λ (z : Option Part). IsPart (parts_info mid) (parts_position mid) (unread source mid) (unread source new) z) is (there.0.is k))
+    (λ k. subst (λ (z : Option Part). IsPart (parts_known mid) (parts_position mid) (unread source mid) (unread source new) z) is (there.0.is k))
     (λ k value t rest code joined short. subst (λ (z : Option Part). IsFrameOf value z × (unread source new ≡ rest)) is (c.in_ok-part.ensures.frame_is_found k value t rest code joined short))
     (there.1 ∙ ap (λ (z : Option Part). after_part (parts_position mid) z) is) _ c.in_err-walk.ensures.err)
 
@@ -81,4 +81,4 @@ returns-in_default-clause-tail g c =
     let there = c.in_ok-part.ensures.part_is_there in
     let at = c.requires.at_start in
     let fits = c.ranges.start.fits in
-    walked_to_tail (omega (arith, at, fits)) c.loop.invariant.so_far (λ k. (subst (λ (z : Option Part). IsPart (parts_info mid) (parts_position mid) (unread source mid) (unread source new) z) c.in_default.is (there.0.is k)).0) c.loop.invariant.tail
+    walked_to_tail (omega (arith, at, fits)) c.loop.invariant.so_far (λ k. (subst (λ (z : Option Part). IsPart (parts_known mid) (parts_position mid) (unread source mid) (unread source new) z) c.in_default.is (there.0.is k)).0) c.loop.invariant.tail
