@@ -46,6 +46,7 @@ use Rattle.claxon.specs.Fault.{
   TooManyBlocks,
   VendorNotUtf8,
 }
+use Rattle.claxon.specs.Gives.{GivesOrOutOfMemory}
 use Rattle.claxon.specs.Heads.{
   Marker,
   MarkerFault,
@@ -339,17 +340,21 @@ module _ (old : State ℕ) (result : FoundHeadAnswer) (new : State ℕ) where
   FoundHeadIsComplete = CodeIsComplete found_head_view result FoundHeadCode old new
 
   -- An Err is `OutOfMemory`, an `IoError`, or the name of a fault that the consumed bytes have.
-  abbrev pub FoundHeadFaultIsSound : Type 0
-  FoundHeadFaultIsSound = FaultIsSound result FoundHeadFault old new
+  abbrev pub FoundFaultIsSound : Type 0
+  FoundFaultIsSound = FaultIsSound result FoundHeadFault old new
 
   -- Where the bytes begin with a fault it is named and alone consumed, or memory or the source
   -- failed.
-  abbrev pub FoundHeadFaultIsComplete : Type 0
-  FoundHeadFaultIsComplete = FaultIsComplete result FoundHeadFault old new
+  abbrev pub FoundFaultIsComplete : Type 0
+  FoundFaultIsComplete = FaultIsComplete result FoundHeadFault old new
 
   -- Where they begin with neither the answer is an `IoError` or `OutOfMemory`.
   abbrev pub FoundHeadElseIoError : Type 0
   FoundHeadElseIoError = ElseIoError result FoundHeadCode FoundHeadFault old new
+
+  -- What the reader on lists gives is returned, or memory or the source failed.
+  abbrev pub FoundHeadIsRead : Type 0
+  FoundHeadIsRead = GivesOrOutOfMemory found_head_view result found_head_at old new
 
 -- A streaminfo is in its bounds.
 abbrev pub FoundHasBounds : {A : Type 0} → Found A → Type 0

@@ -9,9 +9,10 @@ ghost use Rattle.claxon.specs.read.Metadata.{block_header_at};
 ghost use Rattle.claxon_heads.specs.StreamHead.{
   FoundHasBounds,
   FoundHeadElseIoError,
-  FoundHeadFaultIsComplete,
-  FoundHeadFaultIsSound,
+  FoundFaultIsComplete,
+  FoundFaultIsSound,
   FoundHeadIsComplete,
+  FoundHeadIsRead,
   FoundHeadIsSound,
   HeadNeedsMemory,
   IsInfoOf,
@@ -109,9 +110,9 @@ pub fn read_head<R: ReadBytes, A: Allocator + Copy>(
         (counted_bytes R.source input.new) }
     ensures is_complete { FoundHeadIsComplete (counted_bytes R.source input.old) result
         (counted_bytes R.source input.new) }
-    ensures fault_is_sound { FoundHeadFaultIsSound (counted_bytes R.source input.old) result
+    ensures fault_is_sound { FoundFaultIsSound (counted_bytes R.source input.old) result
         (counted_bytes R.source input.new) }
-    ensures fault_is_complete { FoundHeadFaultIsComplete (counted_bytes R.source input.old) result
+    ensures fault_is_complete { FoundFaultIsComplete (counted_bytes R.source input.old) result
         (counted_bytes R.source input.new) }
     ensures else_io_error { FoundHeadElseIoError (counted_bytes R.source input.old) result
         (counted_bytes R.source input.new) }
@@ -119,8 +120,9 @@ pub fn read_head<R: ReadBytes, A: Allocator + Copy>(
     ensures has_bounds { IfOk result (λ found. HasBounds found.0) }
     ensures out_of_memory { OutOfMemoryOnlyWhere HeadNeedsMemory result
         (counted_bytes R.source input.old) }
-    ensures gives { GivesOrOutOfMemory found_head_view result found_head_at
-        (counted_bytes R.source input.old) (counted_bytes R.source input.new) }
+    // By the format's reader on lists.
+    ensures is_read { FoundHeadIsRead (counted_bytes R.source input.old) result
+        (counted_bytes R.source input.new) }
 {
     read_head_exact(alloc, input)
 }

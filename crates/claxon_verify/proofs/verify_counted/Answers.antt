@@ -16,7 +16,7 @@ returns-clause-promises g c =
     let a = counted_bytes source c.args.input.now in
     let m = counted_bytes source c.read_head.new.input in
     let b = counted_bytes source c.walk_frames.new.input in
-    let h = head_consumed a m (c.in_ok-info.info, c.in_ok-info.unsupported) (position_of c.read_head.new.input) e.gives e.has_bounds (front_from_start source c.args.input.now c.read_head.new.input c.requires e.gives) in
+    let h = head_consumed a m (c.in_ok-info.info, c.in_ok-info.unsupported) (position_of c.read_head.new.input) e.is_read e.has_bounds (front_from_start source c.args.input.now c.read_head.new.input c.requires e.is_read) in
     let r = c.report_of.ensures in
     all_counted b h c.args.computes_md5 c.in_ok-info.info c.in_ok-walk.walk c.report_of.result refl r.unsupported c.in_ok-walk.ensures.ok r.info r.frames r.samples r.kept r.sizes r.md5_is_judged r.md5_is_shown c.in_ok-info.unsupported r.unsupported r.is_right
 
@@ -27,7 +27,7 @@ returns-clause-places_are_counted g c =
     let a = counted_bytes source c.args.input.now in
     let m = counted_bytes source c.read_head.new.input in
     let b = counted_bytes source c.walk_frames.new.input in
-    let h = head_consumed a m (c.in_ok-info.info, c.in_ok-info.unsupported) (position_of c.read_head.new.input) e.gives e.has_bounds (front_from_start source c.args.input.now c.read_head.new.input c.requires e.gives) in
+    let h = head_consumed a m (c.in_ok-info.info, c.in_ok-info.unsupported) (position_of c.read_head.new.input) e.is_read e.has_bounds (front_from_start source c.args.input.now c.read_head.new.input c.requires e.is_read) in
     let r = c.report_of.ensures in
     counted_places b h c.args.computes_md5 c.in_ok-info.info c.in_ok-walk.walk c.report_of.result refl r.unsupported c.in_ok-walk.ensures.ok r.info r.frames r.samples r.kept r.sizes r.md5_is_judged r.md5_is_shown c.in_ok-info.unsupported r.unsupported r.is_right
 
@@ -38,7 +38,7 @@ returns-clause-notes_are_exact g c =
     let a = counted_bytes source c.args.input.now in
     let m = counted_bytes source c.read_head.new.input in
     let b = counted_bytes source c.walk_frames.new.input in
-    let h = head_consumed a m (c.in_ok-info.info, c.in_ok-info.unsupported) (position_of c.read_head.new.input) e.gives e.has_bounds (front_from_start source c.args.input.now c.read_head.new.input c.requires e.gives) in
+    let h = head_consumed a m (c.in_ok-info.info, c.in_ok-info.unsupported) (position_of c.read_head.new.input) e.is_read e.has_bounds (front_from_start source c.args.input.now c.read_head.new.input c.requires e.is_read) in
     let r = c.report_of.ensures in
     noted_stream b h c.in_ok-info.info c.in_ok-walk.walk c.report_of.result refl c.in_ok-walk.ensures.notes (record { frames_are = r.frames; samples_are = r.samples; kept = r.kept; sizes_are = r.sizes }) c.in_ok-walk.walk.sizes.changed r.notes
 
@@ -46,7 +46,7 @@ pub returns-clause-keeps_at_most : goal.returns-clause-keeps_at_most
 returns-clause-keeps_at_most g c = let most = c.in_ok-walk.ensures.few in few_kept most.0 most.1 c.report_of.ensures.few
 
 pub returns-clause-loans : goal.returns-clause-loans
-returns-clause-loans g c = c.in_ok-walk.ensures.loans ∙ c.in_ok-info.ensures.gives.loans
+returns-clause-loans g c = c.in_ok-walk.ensures.loans ∙ c.in_ok-info.ensures.is_read.loans
 
 pub returns-clause-is_quiet : goal.returns-clause-is_quiet
 returns-clause-is_quiet g c is =
@@ -57,7 +57,7 @@ pub returns-in_err-info-clause-promises : goal.returns-in_err-info-clause-promis
 returns-in_err-info-clause-promises g c =
     let e = c.in_err-info.ensures in
     let p = err_from_is_err_and c.from_residual.result c.from_residual.ensures.1 in
-    rw (p.1, p.2) (no_head _ _ c.args.computes_md5 c.in_err-info.field-0.0 e.gives e.out_of_memory)
+    rw (p.1, p.2) (no_head _ _ c.args.computes_md5 c.in_err-info.field-0.0 e.is_read e.out_of_memory)
 
 pub returns-in_err-walk-clause-promises : goal.returns-in_err-walk-clause-promises
 returns-in_err-walk-clause-promises g c =
@@ -66,7 +66,7 @@ returns-in_err-walk-clause-promises g c =
     let a = counted_bytes source c.args.input.now in
     let m = counted_bytes source c.read_head.new.input in
     let b = counted_bytes source c.walk_frames.new.input in
-    let h = head_consumed a m (c.in_ok-info.info, c.in_ok-info.unsupported) (position_of c.read_head.new.input) e.gives e.has_bounds (front_from_start source c.args.input.now c.read_head.new.input c.requires e.gives) in
+    let h = head_consumed a m (c.in_ok-info.info, c.in_ok-info.unsupported) (position_of c.read_head.new.input) e.is_read e.has_bounds (front_from_start source c.args.input.now c.read_head.new.input c.requires e.is_read) in
     let p = err_from_is_err_and c.from_residual-in_err-walk.result c.from_residual-in_err-walk.ensures.1 in
     rw (p.1, p.2) (not_counted b h c.args.computes_md5 c.in_err-walk.field-0.0 c.in_err-walk.ensures.err)
 
@@ -77,6 +77,6 @@ returns-clause-trailing_is_told g c =
     let a = counted_bytes source c.args.input.now in
     let m = counted_bytes source c.read_head.new.input in
     let b = counted_bytes source c.walk_frames.new.input in
-    let h = head_consumed a m (c.in_ok-info.info, c.in_ok-info.unsupported) (position_of c.read_head.new.input) e.gives e.has_bounds (front_from_start source c.args.input.now c.read_head.new.input c.requires e.gives) in
+    let h = head_consumed a m (c.in_ok-info.info, c.in_ok-info.unsupported) (position_of c.read_head.new.input) e.is_read e.has_bounds (front_from_start source c.args.input.now c.read_head.new.input c.requires e.is_read) in
     let r = c.report_of.ensures in
     frames_told b h c.args.computes_md5 c.in_ok-info.info c.in_ok-walk.walk c.report_of.result refl r.unsupported c.in_ok-walk.ensures.tail r.info r.frames r.samples r.kept r.sizes r.md5_is_judged r.md5_is_shown c.in_ok-info.unsupported r.unsupported r.is_right r.trailing

@@ -16,7 +16,7 @@ returns-clause-is_sound g c =
     let a = counted_bytes source c.args.input.now in
     let m = counted_bytes source c.read_head.new.input in
     let start = position_of c.read_head.new.input in
-    let h = head_consumed a m (c.in_ok-info.info, c.in_ok-info.unsupported) start e.gives e.has_bounds (front_from_start source c.args.input.now c.read_head.new.input c.requires e.gives) in
+    let h = head_consumed a m (c.in_ok-info.info, c.in_ok-info.unsupported) start e.is_read e.has_bounds (front_from_start source c.args.input.now c.read_head.new.input c.requires e.is_read) in
     let r = c.report_of.ensures in
     let info = c.in_ok-info.info in
     let walk = c.in_ok-walk.walk in
@@ -30,12 +30,12 @@ pub returns-in_err-info-clause-fault_is_sound : goal.returns-in_err-info-clause-
 returns-in_err-info-clause-fault_is_sound g c =
     let e = c.in_err-info.ensures in
     let p = err_from_is_err_and c.from_residual.result c.from_residual.ensures.1 in
-    rw (p.1, p.2) (head_stops _ _ c.in_err-info.field-0.0 e.gives e.out_of_memory)
+    rw (p.1, p.2) (head_stops _ _ c.in_err-info.field-0.0 e.is_read e.out_of_memory)
 
 pub returns-in_err-info-clause-loans : goal.returns-in_err-info-clause-loans
 returns-in_err-info-clause-loans g c =
     let p = err_from_is_err_and c.from_residual.result c.from_residual.ensures.1 in
-    rw p.1 (inl (head_keeps _ _ c.in_err-info.field-0.0 c.in_err-info.ensures.gives))
+    rw p.1 (inl (head_keeps _ _ c.in_err-info.field-0.0 c.in_err-info.ensures.is_read))
 
 pub returns-in_err-parts-clause-fault_is_sound : goal.returns-in_err-parts-clause-fault_is_sound
 returns-in_err-parts-clause-fault_is_sound g c =
@@ -43,7 +43,7 @@ returns-in_err-parts-clause-fault_is_sound g c =
     let source = g.R.ReadBytes.source in
     let a = counted_bytes source c.args.input.now in
     let m = counted_bytes source c.read_head.new.input in
-    let h = head_consumed a m (c.in_ok-info.info, c.in_ok-info.unsupported) (position_of c.read_head.new.input) e.gives e.has_bounds (front_from_start source c.args.input.now c.read_head.new.input c.requires e.gives) in
+    let h = head_consumed a m (c.in_ok-info.info, c.in_ok-info.unsupported) (position_of c.read_head.new.input) e.is_read e.has_bounds (front_from_start source c.args.input.now c.read_head.new.input c.requires e.is_read) in
     let p = err_from_is_err_and c.from_residual-in_err-parts.result c.from_residual-in_err-parts.ensures.1 in
     rw (p.1, p.2) (λ known. after_head (memory_stops h known c.in_err-parts.field-0.0 c.in_err-parts.ensures.err))
 
@@ -53,7 +53,7 @@ returns-in_err-parts-clause-loans g c =
     let source = g.R.ReadBytes.source in
     let a = counted_bytes source c.args.input.now in
     let m = counted_bytes source c.read_head.new.input in
-    let h = head_consumed a m (c.in_ok-info.info, c.in_ok-info.unsupported) (position_of c.read_head.new.input) e.gives e.has_bounds (front_from_start source c.args.input.now c.read_head.new.input c.requires e.gives) in
+    let h = head_consumed a m (c.in_ok-info.info, c.in_ok-info.unsupported) (position_of c.read_head.new.input) e.is_read e.has_bounds (front_from_start source c.args.input.now c.read_head.new.input c.requires e.is_read) in
     let p = err_from_is_err_and c.from_residual-in_err-parts.result c.from_residual-in_err-parts.ensures.1 in
     rw p.1 (inr (begins_with_head h))
 
@@ -64,7 +64,7 @@ returns-in_err-walk-clause-fault_is_sound g c =
     let a = counted_bytes source c.args.input.now in
     let m = counted_bytes source c.read_head.new.input in
     let start = position_of c.read_head.new.input in
-    let h = head_consumed a m (c.in_ok-info.info, c.in_ok-info.unsupported) start e.gives e.has_bounds (front_from_start source c.args.input.now c.read_head.new.input c.requires e.gives) in
+    let h = head_consumed a m (c.in_ok-info.info, c.in_ok-info.unsupported) start e.is_read e.has_bounds (front_from_start source c.args.input.now c.read_head.new.input c.requires e.is_read) in
     let at : c.value-start.result.bytes ≡ start = ap (λ (p : BytesRead). p.bytes) c.value-start.ensures in
     let p = err_from_is_err_and c.from_residual-in_err-walk.result c.from_residual-in_err-walk.ensures.1 in
     rw (p.1, p.2) (λ known. after_head (parts_stop source _ h known c.in_ok-info.info refl _ at c.walk_parts.ensures.fits c.in_ok-parts.parts c.walk_parts.new.parts c.in_ok-parts.ensures.begins c.in_err-walk.field-0.0 c.in_err-walk.ensures.err))
@@ -75,7 +75,7 @@ returns-in_err-walk-clause-loans g c =
     let source = g.R.ReadBytes.source in
     let a = counted_bytes source c.args.input.now in
     let m = counted_bytes source c.read_head.new.input in
-    let h = head_consumed a m (c.in_ok-info.info, c.in_ok-info.unsupported) (position_of c.read_head.new.input) e.gives e.has_bounds (front_from_start source c.args.input.now c.read_head.new.input c.requires e.gives) in
+    let h = head_consumed a m (c.in_ok-info.info, c.in_ok-info.unsupported) (position_of c.read_head.new.input) e.is_read e.has_bounds (front_from_start source c.args.input.now c.read_head.new.input c.requires e.is_read) in
     let p = err_from_is_err_and c.from_residual-in_err-walk.result c.from_residual-in_err-walk.ensures.1 in
     rw p.1 (inr (begins_with_head h))
 
@@ -86,7 +86,7 @@ returns-clause-trailing_is_told g c =
     let a = counted_bytes source c.args.input.now in
     let m = counted_bytes source c.read_head.new.input in
     let start = position_of c.read_head.new.input in
-    let h = head_consumed a m (c.in_ok-info.info, c.in_ok-info.unsupported) start e.gives e.has_bounds (front_from_start source c.args.input.now c.read_head.new.input c.requires e.gives) in
+    let h = head_consumed a m (c.in_ok-info.info, c.in_ok-info.unsupported) start e.is_read e.has_bounds (front_from_start source c.args.input.now c.read_head.new.input c.requires e.is_read) in
     let r = c.report_of.ensures in
     let info = c.in_ok-info.info in
     let walk = c.in_ok-walk.walk in
