@@ -4,6 +4,7 @@ use Rattle.std.specs.Prelude.{
   ◌↔◌,
   ◌⊎◌,
   ◌==◌,
+  ◌&&◌,
   ℕ,
   Bool,
   true,
@@ -38,6 +39,8 @@ use Rattle.claxon.specs.Fault.{
 use Rattle.claxon.specs.StreamInfos.{StreamInfo}
 use Rattle.claxon_command_line.specs.Messages.{ErrorTextIsSound}
 use Rattle.claxon_command_line.specs.Text.{IsText, count_text}
+use Rattle.claxon_verdict.specs.declared.text.SaidBy.{SaidBy}
+use Rattle.claxon_verdict.specs.declared.text.SaidBy.TheVariants.{FirstFrame, Streaminfo}
 use Rattle.claxon_verdict.specs.declared.verdict.Outcome.{Outcome}
 use Rattle.claxon_verdict.specs.declared.verdict.Outcome.TheVariants.{
   NotSupported as SomeNotSupported,
@@ -232,29 +235,57 @@ gap_text gap what =
     count_text gap.count (counted_thing gap.is_variable) ++ codes " "
     ++ (if gap.count == 1 then codes "is" else codes "are") ++ what
 
--- what is wrong, where nothing is counted
-abbrev pub other_damage : Damage → List ℕ
-other_damage BlockingStrategy = codes "the blocking strategy differs from the first frame's"
-other_damage Repeated = codes "frames are repeated"
-other_damage OutOfOrder = codes "frames are out of order"
-other_damage WideSample = codes "a sample has more bits than the streaminfo says"
-other_damage Beyond = codes "frames after the streaminfo's last sample"
-other_damage damage = codes ""
+-- that a sample doesn't fit in the bit depth
+abbrev pub wide_text : SaidBy → List ℕ
+wide_text Streaminfo = codes "a sample has more bits than the streaminfo says"
+wide_text FirstFrame = codes "a sample has more bits than those of the first frame"
 
--- An Ok says what is wrong, and what the streaminfo says.
-abbrev pub DamageTextIsSound : {A : Type 0} → StreamInfo → Damage → Result (String A) AllocError
-    → Type 0
-DamageTextIsSound info (NotDecoded fault) r = FrameErrorTextIsSound fault r
-DamageTextIsSound info (Channels count) r =
-    IsText (count_text count (codes "channel")
-    ++ (codes ", but the streaminfo says " ++ decimal info.channels)) r
-DamageTextIsSound info (BitDepth count) r =
-    IsText (count_text count (codes "bit")
-    ++ (codes " per sample, but the streaminfo says " ++ decimal info.bits_per_sample)) r
-DamageTextIsSound info (SampleRate rate) r =
-    IsText (decimal rate ++ (codes " Hz, but the streaminfo says " ++ decimal info.sample_rate)) r
-DamageTextIsSound info (Missing gap) r = IsText (gap_text gap (codes " missing")) r
-DamageTextIsSound info damage r = IsText (other_damage damage) r
+-- what is wrong, where nothing is counted
+abbrev pub other_damage : SaidBy → Damage → List ℕ
+other_damage by BlockingStrategy = codes "the blocking strategy differs from the first frame's"
+other_damage by Repeated = codes "frames are repeated"
+other_damage by OutOfOrder = codes "frames are out of order"
+other_damage by WideSample = wide_text by
+other_damage by Beyond = codes "frames after the streaminfo's last sample"
+other_damage by damage = codes ""
+
+-- what a frame says, and then the number that it should have
+abbrev pub but_text : List ℕ → SaidBy → ℕ → List ℕ
+but_text what Streaminfo expected =
+    what ++ (codes ", but the streaminfo says " ++ decimal expected)
+but_text what FirstFrame expected =
+    what ++ (codes ", but the first frame has " ++ decimal expected)
+
+-- An Ok says what is wrong, and what the streaminfo says or the first frame has.
+abbrev pub DamageTextIsSound : {A : Type 0} → StreamInfo → SaidBy → Damage
+    → Result (String A) AllocError → Type 0
+DamageTextIsSound info by (NotDecoded fault) r = FrameErrorTextIsSound fault r
+DamageTextIsSound info by (Channels count) r =
+    IsText (but_text (count_text count (codes "channel")) by info.channels) r
+DamageTextIsSound info by (BitDepth count) r =
+    IsText (but_text (count_text count (codes "bit") ++ codes " per sample") by
+    info.bits_per_sample) r
+DamageTextIsSound info by (SampleRate rate) r =
+    IsText (but_text (decimal rate ++ codes " Hz") by info.sample_rate) r
+DamageTextIsSound info by (Missing gap) r = IsText (gap_text gap (codes " missing")) r
+DamageTextIsSound info by damage r = IsText (other_damage by damage) r
+
+-- No frame is decoded there.
+abbrev pub is_not_decoded : Damage → Bool
+is_not_decoded (NotDecoded fault) = true
+is_not_decoded damage = false
+
+-- A place is a head that is wrong: it begins at the first byte, where no frame is decoded.
+abbrev pub is_head : SaidBy → Place → Bool
+is_head Streaminfo place = false
+is_head FirstFrame place = is_not_decoded place.damage && place.start_byte == 0
+
+-- An Ok says of a place that it is the head, or else what is wrong there.
+abbrev pub PlaceTextIsSound : {A : Type 0} → StreamInfo → SaidBy → Place
+    → Result (String A) AllocError → Type 0
+PlaceTextIsSound info by place r =
+    when is_head by place then IsText (codes "the head") r
+    else DamageTextIsSound info by place.damage r
 
 -- what is noted of a fixed block size that changes
 abbrev pub size_note : BlockSizes → List ℕ

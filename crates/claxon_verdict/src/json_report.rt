@@ -1,6 +1,8 @@
 //! What is printed of a file that was verified, as JSON (RFC 8259).
-use crate::text::{head_error_text, notes, place_text, size_note, unsupported_note};
-use crate::verdict::Verdict;
+use crate::text::{
+    SaidBy, frame_notes, head_error_text, notes, place_text, size_note, unsupported_note,
+};
+use crate::verdict::{Verdict, WrongHead};
 use claxon::Error;
 use claxon_blocks::md5_verdict::Md5Verdict;
 use claxon_command_line::json::push_json_string;
@@ -16,14 +18,26 @@ pub fn report_object(
     verdict: Verdict,
 ) -> Result<String, AllocError> {
     let mut text = start_text(alloc, name, report, verdict)?;
-    let places = &report.found.places;
-    if let Some(first) = &places.first {
-        text.push_str(place_object(alloc, report, 0, first)?.as_str())?;
-    }
-    for (index, place) in places.more.iter().enumerate() {
-        text.push_str(place_object(alloc, report, index + 1, place)?.as_str())?;
-    }
+    push_places(alloc, &mut text, report, SaidBy::Streaminfo)?;
     text.push_str(end_text(alloc, report, verdict)?.as_str())?;
+    Ok(text)
+}
+
+/// The object of a file whose head is wrong, of which frames are told, and a line feed.
+pub fn wrong_head_object(
+    alloc: Global,
+    name: &str,
+    head: &WrongHead,
+) -> Result<String, AllocError> {
+    let report = &head.frames;
+    let mut text = name_text(alloc, name, Verdict::Wrong)?;
+    push_reason(&mut text, head_error_text(alloc, &head.error)?.as_str())?;
+    push_numbers(&mut text, report)?;
+    text.push_str(",\"md5\":\"not computed\"")?;
+    push_places(alloc, &mut text, report, SaidBy::FirstFrame)?;
+    text.push_str(",\"notes\":[")?;
+    push_notes_that_are_so(&mut text, &frame_notes(report))?;
+    text.push_str("]}\n")?;
     Ok(text)
 }
 
@@ -35,17 +49,21 @@ fn start_text(
     verdict: Verdict,
 ) -> Result<String, AllocError> {
     let mut text = name_text(alloc, name, verdict)?;
-    for (member, number) in numbers(report) {
-        write!(&mut text, ",\"{member}\":{number}")?;
-    }
+    push_numbers(&mut text, report)?;
     if let Some(samples) = report.info.samples {
         write!(&mut text, ",\"streaminfo_samples\":{samples}")?;
     }
     let md5 = md5_word(report, verdict);
     write!(&mut text, ",\"md5\":\"{md5}\"")?;
     push_sum(alloc, &mut text, report, verdict)?;
-    text.push_str(",\"places\":[")?;
     Ok(text)
+}
+
+fn push_numbers(text: &mut String, report: &Report) -> Result<(), AllocError> {
+    for (member, number) in numbers(report) {
+        write!(text, ",\"{member}\":{number}")?;
+    }
+    Ok(())
 }
 
 // The sum of all samples. Of a file with frames that aren't supported not all are hashed.
@@ -92,10 +110,34 @@ fn md5_word(report: &Report, verdict: Verdict) -> &'static str {
     }
 }
 
+// Adds the places, and how many are left out.
+fn push_places(
+    alloc: Global,
+    text: &mut String,
+    report: &Report,
+    by: SaidBy,
+) -> Result<(), AllocError> {
+    text.push_str(",\"places\":[")?;
+    let places = &report.found.places;
+    if let Some(first) = &places.first {
+        text.push_str(place_object(alloc, report, by, 0, first)?.as_str())?;
+    }
+    for (index, place) in places.more.iter().enumerate() {
+        text.push_str(place_object(alloc, report, by, index + 1, place)?.as_str())?;
+    }
+    text.push_str("]")?;
+    let left_out = places.left_out;
+    if left_out > 0 {
+        write!(text, ",\"left_out\":{left_out}")?;
+    }
+    Ok(())
+}
+
 // A place, with a comma before it if it isn't the first: `index` places are before it.
 fn place_object(
     alloc: Global,
     report: &Report,
+    by: SaidBy,
     index: usize,
     place: &Place,
 ) -> Result<String, AllocError> {
@@ -107,19 +149,15 @@ fn place_object(
         &mut text,
         ",\"start_sample\":{first},\"end_sample\":{last},\"what\":"
     )?;
-    let what = place_text(alloc, report, index, place)?;
+    let what = place_text(alloc, report, by, index, place)?;
     push_json_string(&mut text, what.as_str())?;
     text.push_str("}")?;
     Ok(text)
 }
 
-// The object from the end of its places on, and a line feed.
+// The object after its places, and a line feed.
 fn end_text(alloc: Global, report: &Report, verdict: Verdict) -> Result<String, AllocError> {
-    let mut text = String::from_str(alloc, "]")?;
-    let left_out = report.found.places.left_out;
-    if left_out > 0 {
-        write!(&mut text, ",\"left_out\":{left_out}")?;
-    }
+    let mut text = String::new(alloc);
     push_notes(alloc, &mut text, report, verdict)?;
     if let Verdict::NotSupported(reason) = verdict {
         push_reason(&mut text, reason)?;
@@ -140,14 +178,7 @@ fn push_notes(
     verdict: Verdict,
 ) -> Result<(), AllocError> {
     text.push_str(",\"notes\":[")?;
-    let mut before = "";
-    for (is_so, note) in notes(report) {
-        if is_so {
-            text.push_str(before)?;
-            push_json_string(text, note)?;
-            before = ",";
-        }
-    }
+    let mut before = push_notes_that_are_so(text, &notes(report))?;
     if let Some(sizes) = report.found.notes.changed_block_size {
         text.push_str(before)?;
         push_json_string(text, size_note(alloc, sizes)?.as_str())?;
@@ -161,6 +192,22 @@ fn push_notes(
         _ => {}
     }
     text.push_str("]")
+}
+
+// Adds the notes that are so, and returns what comes before the next one.
+fn push_notes_that_are_so(
+    text: &mut String,
+    notes: &[(bool, &'static str)],
+) -> Result<&'static str, AllocError> {
+    let mut before = "";
+    for (is_so, note) in notes {
+        if *is_so {
+            text.push_str(before)?;
+            push_json_string(text, *note)?;
+            before = ",";
+        }
+    }
+    Ok(before)
 }
 
 /// The object of a file that gave this error in place of a report, and a line feed.

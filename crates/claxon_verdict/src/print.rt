@@ -2,10 +2,10 @@
 ghost use Rattle.std.specs.Prelude.{◌↔◌, IsTrue};
 ghost use Rattle.claxon_verdict.specs.Verdict.{IsBrokenPipe};
 
-use crate::json_report::{error_object, object, report_object};
+use crate::json_report::{error_object, object, report_object, wrong_head_object};
 use crate::tally::{Tally, summary_line, summary_object};
-use crate::text::{head_text, left_out_line, place_line, verdict_text};
-use crate::verdict::Verdict;
+use crate::text::{SaidBy, head_text, left_out_line, place_line, verdict_text, wrong_head_text};
+use crate::verdict::{Verdict, WrongHead};
 use claxon::Error;
 use claxon_blocks::md5_verdict::Md5Verdict;
 use claxon_command_line::input::STANDARD;
@@ -79,7 +79,42 @@ fn print_lines<W: Write>(
     let text = verdict_text(alloc, report, verdict, is_brief);
     print_line(alloc, name, text, output)?;
     if !is_brief && matches!(verdict, Verdict::Wrong) {
-        print_places(alloc, name, report, output)?;
+        print_places(alloc, name, report, SaidBy::Streaminfo, output)?;
+    }
+    output.flush()?;
+    Ok(())
+}
+
+/// Prints what is said of a file whose head is wrong, of which frames are told, and returns the verdict: None if the output
+/// fails.
+pub fn print_wrong_head<W: Write, E: Write>(
+    alloc: Global,
+    name: &str,
+    head: &WrongHead,
+    options: PrintOptions,
+    output: &mut W,
+    errors: &mut E,
+) -> Option<Verdict> {
+    let printed = if options.is_json {
+        put_flushed(wrong_head_object(alloc, name, head), output)
+    } else {
+        print_wrong_head_lines(alloc, name, head, options.is_brief, output)
+    };
+    verdict_after(alloc, printed, Verdict::Wrong, errors)
+}
+
+// Prints the lines of such a file.
+fn print_wrong_head_lines<W: Write>(
+    alloc: Global,
+    name: &str,
+    head: &WrongHead,
+    is_brief: bool,
+    output: &mut W,
+) -> claxon::Result<()> {
+    let text = wrong_head_text(alloc, head, is_brief);
+    print_line(alloc, name, text, output)?;
+    if !is_brief {
+        print_places(alloc, name, &head.frames, SaidBy::FirstFrame, output)?;
     }
     output.flush()?;
     Ok(())
@@ -89,17 +124,18 @@ fn print_places<W: Write>(
     alloc: Global,
     name: &str,
     report: &Report,
+    by: SaidBy,
     output: &mut W,
 ) -> claxon::Result<()> {
     let places = &report.found.places;
     if let Some(first) = &places.first {
-        print_line(alloc, name, place_line(alloc, report, 0, first), output)?;
+        print_line(alloc, name, place_line(alloc, report, by, 0, first), output)?;
     }
     for (index, place) in places.more.iter().enumerate() {
         print_line(
             alloc,
             name,
-            place_line(alloc, report, index + 1, place),
+            place_line(alloc, report, by, index + 1, place),
             output,
         )?;
     }

@@ -7,16 +7,20 @@ ghost use Rattle.claxon_verdict.specs.Verdict.{
   FrameErrorTextIsSound,
   FrameTextIsSound,
   HeadErrorTextIsSound,
+  PlaceTextIsSound,
+  but_text,
   gap_text,
+  is_head,
   other_damage,
   size_note,
   trailing_name,
   trailing_text,
   unsupported_note,
+  wide_text,
 };
 ghost use Rattle.claxon_command_line.specs.Text.{IsText};
 
-use crate::verdict::{Verdict, block_reason};
+use crate::verdict::{Verdict, WrongHead, block_reason};
 use claxon::Error;
 use claxon::metadata::StreamInfo;
 use claxon_blocks::frames::{FrameError, UNSUPPORTED_32_BIT};
@@ -31,6 +35,15 @@ use std::alloc::{AllocError, Global};
 // The decoder's text, which is that of claxon 0.4.3.
 const NEGATIVE_SHIFT: &str =
     "a negative quantized linear predictor coefficient shift is not supported, please file a bug.";
+
+/// What says the format of a stream, with which that of a frame is compared.
+#[derive(Clone, Copy)]
+pub enum SaidBy {
+    /// The streaminfo.
+    Streaminfo,
+    /// The first frame that says it, as the head is wrong.
+    FirstFrame,
+}
 
 /// The line of a file with a report, without its name. If it `is_brief` it has the first place, which else has its own line.
 pub fn verdict_text(
@@ -53,6 +66,21 @@ pub fn head_text(alloc: Global, error: &Error, verdict: Verdict) -> Result<Strin
     }
     let text = head_error_text(alloc, error)?;
     format!(in alloc; "wrong, {text}")
+}
+
+/// The line of a file whose head is wrong, and of whose frames there is a report, without its name. If it `is_brief` it has the
+/// first place.
+pub fn wrong_head_text(
+    alloc: Global,
+    head: &WrongHead,
+    is_brief: bool,
+) -> Result<String, AllocError> {
+    let report = &head.frames;
+    let mut text = head_text(alloc, &head.error, Verdict::Wrong)?;
+    push_counts(alloc, &mut text, &report.found)?;
+    push_unsearched(&mut text, report)?;
+    push_places(alloc, &mut text, report, SaidBy::FirstFrame, is_brief)?;
+    Ok(text)
 }
 
 /// What is wrong with a head.
@@ -90,6 +118,8 @@ fn right_text(alloc: Global, report: &Report) -> Result<String, AllocError> {
 // That in damage not each byte was searched: very many headers led to no frame.
 const NOT_SEARCHED: &str = "some bytes weren't searched for frames";
 
+const BYTE_LEFT: &str = "1 byte after the last frame";
+
 /// What is unusual in a stream, but not wrong, and whether it is so. `size_note` isn't among them.
 pub fn notes(report: &Report) -> [(bool, &'static str); 7] {
     let notes = report.found.notes;
@@ -104,8 +134,17 @@ pub fn notes(report: &Report) -> [(bool, &'static str); 7] {
             notes.has_other_frame_size,
             "a frame size is out of the streaminfo's bounds",
         ),
-        (notes.has_byte_left, "1 byte after the last frame"),
+        (notes.has_byte_left, BYTE_LEFT),
         (notes.has_failed_read, "a read failed"),
+        (notes.has_unsearched, NOT_SEARCHED),
+    ]
+}
+
+/// What is noted of frames whose head is wrong, and whether it is so.
+pub fn frame_notes(report: &Report) -> [(bool, &'static str); 2] {
+    let notes = report.found.notes;
+    [
+        (notes.has_byte_left, BYTE_LEFT),
         (notes.has_unsearched, NOT_SEARCHED),
     ]
 }
@@ -133,27 +172,41 @@ fn wrong_text(alloc: Global, report: &Report, is_brief: bool) -> Result<String, 
     if report.found.notes.has_failed_read {
         text.push_str(", a read failed")?;
     }
-    if report.found.notes.has_unsearched {
-        write!(&mut text, ", {NOT_SEARCHED}")?;
+    push_unsearched(&mut text, report)?;
+    let has_place = report.found.places.first.is_some();
+    if !has_place && is_expected && matches!(report.md5, Md5Verdict::Wrong) {
+        text.push_str(", but their MD5 sum isn't that of the streaminfo")?;
     }
-    match &report.found.places.first {
-        Some(first) => {
-            push_unsupported(alloc, &mut text, report)?;
-            let total = places_total(&report.found.places);
-            push_count(alloc, &mut text, ", ", total, "place")?;
-            if is_brief {
-                push_first_place(alloc, &mut text, report, first)?;
-            }
-        }
-        None if is_expected && matches!(report.md5, Md5Verdict::Wrong) => {
-            text.push_str(", but their MD5 sum isn't that of the streaminfo")?;
-        }
-        None => {}
-    }
-    if report.found.places.first.is_none() {
-        push_unsupported(alloc, &mut text, report)?;
-    }
+    push_unsupported(alloc, &mut text, report)?;
+    push_places(alloc, &mut text, report, SaidBy::Streaminfo, is_brief)?;
     Ok(text)
+}
+
+// Adds that some bytes weren't searched, if it is so.
+fn push_unsearched(text: &mut String, report: &Report) -> Result<(), AllocError> {
+    if report.found.notes.has_unsearched {
+        write!(text, ", {NOT_SEARCHED}")?;
+    }
+    Ok(())
+}
+
+// Adds how many places there are, if there are some, and what the first is, if the line `is_brief`.
+fn push_places(
+    alloc: Global,
+    text: &mut String,
+    report: &Report,
+    by: SaidBy,
+    is_brief: bool,
+) -> Result<(), AllocError> {
+    let Some(first) = &report.found.places.first else {
+        return Ok(());
+    };
+    let total = places_total(&report.found.places);
+    push_count(alloc, text, ", ", total, "place")?;
+    if is_brief {
+        push_first_place(alloc, text, report, by, first)?;
+    }
+    Ok(())
 }
 
 // Adds the metadata block that isn't supported, if there is one.
@@ -188,12 +241,13 @@ fn push_first_place(
     alloc: Global,
     text: &mut String,
     report: &Report,
+    by: SaidBy,
     first: &Place,
 ) -> Result<(), AllocError> {
     if places_total(&report.found.places) > 1 {
         text.push_str(", the first")?;
     }
-    let (byte, what) = (first.start_byte, place_text(alloc, report, 0, first)?);
+    let (byte, what) = (first.start_byte, place_text(alloc, report, by, 0, first)?);
     write!(text, " at byte {byte}")?;
     push_count(alloc, text, " after ", first.start_sample, "sample")?;
     write!(text, ": {what}")
@@ -210,10 +264,11 @@ fn places_total(places: &Places) -> u64 {
 pub fn place_line(
     alloc: Global,
     report: &Report,
+    by: SaidBy,
     index: usize,
     place: &Place,
 ) -> Result<String, AllocError> {
-    let what = place_text(alloc, report, index, place)?;
+    let what = place_text(alloc, report, by, index, place)?;
     let (start, end) = (place.start_byte, place.end_byte);
     let (first, last) = (place.start_sample, place.end_sample);
     if start == end {
@@ -232,18 +287,41 @@ pub fn left_out_line(alloc: Global, left_out: u64) -> Result<String, AllocError>
 pub fn place_text(
     alloc: Global,
     report: &Report,
+    by: SaidBy,
     index: usize,
     place: &Place,
 ) -> Result<String, AllocError> {
     let places = &report.found.places;
     let is_last = index == places.more.len() && places.left_out == 0;
     match report.trailing {
-        Some(trailing) if is_last => {
+        Some(trailing) if is_last && !is_head(by, place) => {
             let bytes = place.end_byte.wrapping_sub(place.start_byte);
             trailing_text(alloc, bytes, trailing)
         }
-        _ => damage_text(alloc, &report.info, &place.damage),
+        _ => text_of_place(alloc, &report.info, by, place),
     }
+}
+
+// Whether a place is a head that is wrong: it begins at the first byte, where no frame is decoded.
+fn is_head(by: SaidBy, place: &Place) -> bool
+    ensures { result ≡ is_head by place.now }
+{
+    matches!((by, &place.damage), (SaidBy::FirstFrame, Damage::Fault(_))) && place.start_byte == 0
+}
+
+// What is wrong in a place before the last frame.
+fn text_of_place(
+    alloc: Global,
+    info: &StreamInfo,
+    by: SaidBy,
+    place: &Place,
+) -> Result<String, AllocError>
+    ensures is_sound { PlaceTextIsSound info.now by place.now result }
+{
+    if is_head(by, place) {
+        return String::from_str(alloc, "the head");
+    }
+    damage_text(alloc, info, by, &place.damage)
 }
 
 // What stands after the last frame: so many bytes.
@@ -268,45 +346,66 @@ fn trailing_name(trailing: Trailing) -> &'static str
 }
 
 // What is wrong.
-fn damage_text(alloc: Global, info: &StreamInfo, damage: &Damage) -> Result<String, AllocError>
-    ensures is_sound { DamageTextIsSound info.now damage.now result }
+fn damage_text(
+    alloc: Global,
+    info: &StreamInfo,
+    by: SaidBy,
+    damage: &Damage,
+) -> Result<String, AllocError>
+    ensures is_sound { DamageTextIsSound info.now by damage.now result }
 {
     match damage {
         Damage::Fault(fault) => frame_error_text(alloc, fault),
         Damage::Channels(count) => {
-            let (counted, said) = (
-                count_text(alloc, u64::from(*count), "channel")?,
-                info.channels,
-            );
-            format!(in alloc; "{counted}, but the streaminfo says {said}")
+            let counted = count_text(alloc, u64::from(*count), "channel")?;
+            but_text(alloc, counted.as_str(), by, info.channels)
         }
         Damage::BitDepth(bits) => {
-            let (counted, said) = (
-                count_text(alloc, u64::from(*bits), "bit")?,
-                info.bits_per_sample,
-            );
-            format!(in alloc; "{counted} per sample, but the streaminfo says {said}")
+            let counted = count_text(alloc, u64::from(*bits), "bit")?;
+            let each = format!(in alloc; "{counted} per sample")?;
+            but_text(alloc, each.as_str(), by, info.bits_per_sample)
         }
         Damage::SampleRate(rate) => {
-            let (rate, said) = (*rate, info.sample_rate);
-            format!(in alloc; "{rate} Hz, but the streaminfo says {said}")
+            let rate = *rate;
+            let hertz = format!(in alloc; "{rate} Hz")?;
+            but_text(alloc, hertz.as_str(), by, info.sample_rate)
         }
         Damage::Missing(gap) => gap_text(alloc, *gap, " missing"),
-        _ => String::from_str(alloc, other_damage(damage)),
+        _ => String::from_str(alloc, other_damage(by, damage)),
+    }
+}
+
+// What a frame says, and then the number that it should have.
+fn but_text(alloc: Global, what: &str, by: SaidBy, expected: u32) -> Result<String, AllocError>
+    ensures is_text { IsText (but_text what.now by expected) result }
+{
+    match by {
+        SaidBy::Streaminfo => format!(in alloc; "{what}, but the streaminfo says {expected}"),
+        SaidBy::FirstFrame => format!(in alloc; "{what}, but the first frame has {expected}"),
     }
 }
 
 // What is wrong, where nothing is counted.
-fn other_damage(damage: &Damage) -> &'static str
-    ensures { result.now ≡ other_damage damage.now }
+fn other_damage(by: SaidBy, damage: &Damage) -> &'static str
+    ensures { result.now ≡ other_damage by damage.now }
 {
     match damage {
         Damage::BlockingStrategy => "the blocking strategy differs from the first frame's",
         Damage::Repeated => "frames are repeated",
         Damage::OutOfOrder => "frames are out of order",
-        Damage::WideSample => "a sample has more bits than the streaminfo says",
+        Damage::WideSample => wide_text(by),
         Damage::Beyond => "frames after the streaminfo's last sample",
         _ => "",
+    }
+}
+
+// That a sample doesn't fit in the bit depth.
+fn wide_text(by: SaidBy) -> &'static str
+    ensures { result.now ≡ wide_text by }
+{
+    match by {
+        SaidBy::Streaminfo => "a sample has more bits than the streaminfo says",
+        SaidBy::FirstFrame => "a sample has more bits than those of the first frame",
     }
 }
 

@@ -87,6 +87,15 @@ impl Verdict {
     }
 }
 
+/// A file whose head is wrong, and its frames.
+#[derive(Drop)]
+pub struct WrongHead {
+    /// What is wrong with the head.
+    pub error: Error,
+    /// What was found from the first byte on, by the format that a frame says.
+    pub frames: Report,
+}
+
 // Whether nothing is wrong, but that some of the metadata may not be supported.
 fn has_sound_frames(report: &Report) -> bool
     ensures { IsTrue result ↔ HasSoundFrames report.now }

@@ -1,8 +1,8 @@
 //! The objects of files, as RFC 8259 has them.
 use super::reports::{Stream, report};
 use claxon::Error;
-use claxon_verdict::json_report::{error_object, object, report_object};
-use claxon_verdict::verdict::Verdict;
+use claxon_verdict::json_report::{error_object, object, report_object, wrong_head_object};
+use claxon_verdict::verdict::{Verdict, WrongHead};
 use claxon_verify::report::Trailing;
 use std::alloc::{AllocError, Global};
 use std::test::Fail;
@@ -67,5 +67,28 @@ fn others(rt: HostRuntime) -> Result<(), Fail> {
     let want =
         "{\"name\":\"a\\\\xff\",\"verdict\":\"not read\",\"reason\":\"the name isn't UTF-8\"}\n";
     assert!(rt; is_unread(alloc, want)?);
+    Ok(())
+}
+
+// The frames of a stream whose head is wrong, and its object.
+#[rattlefmt::skip]
+const WITHOUT_HEADS: [(Stream, &str); 2] = [
+    (Stream::MorePlaces(Some(Trailing::Ape), 7), "{\"name\":\"a\\\"b.flac\",\"verdict\":\"wrong\",\"reason\":\"not a FLAC file\",\"frames\":299,\"samples\":1224704,\"sample_rate\":48000,\"channels\":1,\"bits_per_sample\":16,\"md5\":\"not computed\",\"places\":[{\"start_byte\":53,\"end_byte\":1234,\"start_sample\":4096,\"end_sample\":8192,\"what\":\"Ill-formed FLAC stream: frame CRC mismatch\"},{\"start_byte\":5678,\"end_byte\":5678,\"start_sample\":40960,\"end_sample\":53248,\"what\":\"3 frames are missing\"},{\"start_byte\":9000,\"end_byte\":9128,\"start_sample\":1224704,\"end_sample\":1224704,\"what\":\"the blocking strategy differs from the first frame's\"}],\"left_out\":7,\"notes\":[]}\n"),
+    (Stream::Unsearched, "{\"name\":\"a\\\"b.flac\",\"verdict\":\"wrong\",\"reason\":\"not a FLAC file\",\"frames\":300,\"samples\":1228800,\"sample_rate\":48000,\"channels\":1,\"bits_per_sample\":16,\"md5\":\"not computed\",\"places\":[],\"notes\":[\"1 byte after the last frame\",\"some bytes weren't searched for frames\"]}\n"),
+];
+
+fn is_without_head(alloc: Global, stream: Stream, want: &str) -> Result<bool, AllocError> {
+    let head = WrongHead {
+        error: Error::FormatError("invalid stream header"),
+        frames: report(alloc, stream)?,
+    };
+    Ok(wrong_head_object(alloc, "a\"b.flac", &head)?.as_str() == want)
+}
+
+#[test]
+fn wrong_heads(rt: HostRuntime) -> Result<(), Fail> {
+    for (stream, want) in &WITHOUT_HEADS {
+        assert!(rt; is_without_head(rt.alloc(), *stream, *want)?, "{want}");
+    }
     Ok(())
 }

@@ -17,6 +17,8 @@ pub enum Stream {
     Right,
     /// The same, with all that is unusual.
     Unusual,
+    /// The same, with all that is unusual, and bytes that weren't searched.
+    Unsearched,
     /// The same frames, with another MD5 sum.
     OtherSum,
     /// A stream with one frame fewer.
@@ -99,7 +101,7 @@ pub fn report(alloc: Global, stream: Stream) -> Result<Report, AllocError> {
 fn info(stream: Stream) -> StreamInfo {
     let mut info = INFO;
     match stream {
-        Stream::Unusual => info.samples = None,
+        Stream::Unusual | Stream::Unsearched => info.samples = None,
         Stream::Wide => info.bits_per_sample = 32,
         _ => {}
     }
@@ -128,10 +130,13 @@ fn counts(stream: Stream) -> (u64, u64) {
 }
 
 fn notes(stream: Stream) -> Notes {
-    if matches!(stream, Stream::Unusual) {
-        ALL_NOTES
-    } else {
-        NO_NOTES
+    match stream {
+        Stream::Unusual => ALL_NOTES,
+        Stream::Unsearched => Notes {
+            has_unsearched: true,
+            ..ALL_NOTES
+        },
+        _ => NO_NOTES,
     }
 }
 
@@ -168,7 +173,8 @@ fn first_place(stream: Stream) -> Option<Place> {
     }
 }
 
-fn fault(text: &'static str, is_32_bit: bool) -> Damage {
+/// That a frame isn't decoded, for this reason.
+pub fn fault(text: &'static str, is_32_bit: bool) -> Damage {
     Damage::Fault(FrameError {
         error: Error::FormatError(text),
         is_32_bit,

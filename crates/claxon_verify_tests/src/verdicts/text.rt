@@ -1,8 +1,11 @@
 //! The lines about files.
-use super::reports::{Stream, place, report};
+use super::reports::{Stream, fault, place, report};
 use claxon::Error;
-use claxon_verdict::text::{head_text, left_out_line, place_line, place_text, verdict_text};
-use claxon_verdict::verdict::Verdict;
+use claxon::fault_texts::FRAME_CRC_MISMATCH;
+use claxon_verdict::text::{
+    SaidBy, head_text, left_out_line, place_line, place_text, verdict_text, wrong_head_text,
+};
+use claxon_verdict::verdict::{Verdict, WrongHead};
 use claxon_verify::report::{Damage, Gap, Place, Trailing};
 use std::alloc::{AllocError, Global};
 use std::test::Fail;
@@ -69,7 +72,8 @@ fn is_place_line(alloc: Global, left_out: u64, i: usize, want: &str) -> Result<b
     let report = report(alloc, stream)?;
     match report.found.places.more.get(i) {
         Some(place) => {
-            let line = place_line(alloc, &report, i.saturating_add(1), place)?;
+            let by = SaidBy::Streaminfo;
+            let line = place_line(alloc, &report, by, i.saturating_add(1), place)?;
             Ok(line.as_str() == want)
         }
         None => Ok(false),
@@ -87,9 +91,15 @@ fn places(rt: HostRuntime) -> Result<(), Fail> {
 }
 
 // What is said of a place, if nothing is before it.
-fn is_damage(alloc: Global, stream: Stream, place: &Place, want: &str) -> Result<bool, AllocError> {
+fn is_damage(
+    alloc: Global,
+    stream: Stream,
+    by: SaidBy,
+    place: &Place,
+    want: &str,
+) -> Result<bool, AllocError> {
     let report = report(alloc, stream)?;
-    Ok(place_text(alloc, &report, 0, place)?.as_str() == want)
+    Ok(place_text(alloc, &report, by, 0, place)?.as_str() == want)
 }
 
 #[rattlefmt::skip]
@@ -111,10 +121,53 @@ fn damages(rt: HostRuntime) -> Result<(), Fail> {
     for (damage, want) in DAMAGES {
         let place = place((0, 0), (0, 0), damage);
         assert!(rt;
-            is_damage(rt.alloc(), Stream::Right, &place, want)?,
+            is_damage(rt.alloc(), Stream::Right, SaidBy::Streaminfo, &place, want)?,
             "{want}"
         );
     }
+    Ok(())
+}
+
+// The first byte of a place, what is wrong there, and what is said of it where the head is wrong.
+#[rattlefmt::skip]
+const WITHOUT_HEAD: [(u64, Damage, &str); 6] = [
+    (0, Damage::Channels(2), "2 channels, but the first frame has 1"),
+    (0, Damage::BitDepth(1), "1 bit per sample, but the first frame has 16"),
+    (42, Damage::SampleRate(44100), "44100 Hz, but the first frame has 48000"),
+    (42, Damage::WideSample, "a sample has more bits than those of the first frame"),
+    (0, Damage::Missing(Gap { count: 3, is_variable: false }), "3 frames are missing"),
+    (0, Damage::Repeated, "frames are repeated"),
+];
+
+// A place at this byte, where a frame has another CRC, in a stream with other bytes after it.
+fn is_fault(
+    alloc: Global,
+    by: SaidBy,
+    start: u64,
+    stream: Stream,
+    want: &str,
+) -> Result<bool, AllocError> {
+    let place = place((start, 53), (0, 0), fault(FRAME_CRC_MISMATCH, false));
+    is_damage(alloc, stream, by, &place, want)
+}
+
+#[test]
+fn damages_without_head(rt: HostRuntime) -> Result<(), Fail> {
+    let (alloc, by) = (rt.alloc(), SaidBy::FirstFrame);
+    for (start, damage, want) in WITHOUT_HEAD {
+        let place = place((start, 53), (0, 0), damage);
+        assert!(rt;
+            is_damage(alloc, Stream::Right, by, &place, want)?,
+            "{want}"
+        );
+    }
+    let other = Stream::Followed(Trailing::Other);
+    let crc = "Ill-formed FLAC stream: frame CRC mismatch";
+    assert!(rt; is_fault(alloc, by, 0, Stream::Right, "the head")?);
+    assert!(rt; is_fault(alloc, by, 0, other, "the head")?);
+    assert!(rt; is_fault(alloc, by, 1, Stream::Right, crc)?);
+    assert!(rt; is_fault(alloc, by, 1, other, "52 bytes after the last frame")?);
+    assert!(rt; is_fault(alloc, SaidBy::Streaminfo, 0, Stream::Right, crc)?);
     Ok(())
 }
 
@@ -137,7 +190,10 @@ fn ends(rt: HostRuntime) -> Result<(), Fail> {
     for (bytes, trailing, want) in &ENDS {
         let place = place((0, *bytes), (0, 0), Damage::WideSample);
         let stream = Stream::Followed(*trailing);
-        assert!(rt; is_damage(rt.alloc(), stream, &place, *want)?, "{want}");
+        assert!(rt;
+            is_damage(rt.alloc(), stream, SaidBy::Streaminfo, &place, *want)?,
+            "{want}"
+        );
     }
     for (count, want) in [(1, "  and 1 more place"), (5, "  and 5 more places")] {
         assert!(rt; is_left_out(rt.alloc(), count, want)?, "{want}");
@@ -178,6 +234,39 @@ fn is_head(alloc: Global, error: &Error, want: Option<&str>) -> Result<bool, All
 fn heads(rt: HostRuntime) -> Result<(), Fail> {
     for (row, (error, want)) in HEADS.iter().enumerate() {
         assert!(rt; is_head(rt.alloc(), error, *want)?, "{row}");
+    }
+    Ok(())
+}
+
+// The frames of a stream whose head is wrong, whether the line is brief, and the line.
+#[rattlefmt::skip]
+const WITHOUT_HEADS: [(Stream, bool, &str); 4] = [
+    (Stream::Short, true, "wrong, not a FLAC file, 299 frames, 1224704 samples"),
+    (Stream::OnePlace, false, "wrong, not a FLAC file, 299 frames, 1224704 samples, 1 place"),
+    (Stream::MorePlaces(None, 5), true, "wrong, not a FLAC file, 299 frames, 1224704 samples, 8 places, the first at byte 53 after 4096 samples: Ill-formed FLAC stream: frame CRC mismatch"),
+    (Stream::Unsearched, true, "wrong, not a FLAC file, 300 frames, 1228800 samples, some bytes weren't searched for frames"),
+];
+
+fn is_without_head(
+    alloc: Global,
+    stream: Stream,
+    is_brief: bool,
+    want: &str,
+) -> Result<bool, AllocError> {
+    let head = WrongHead {
+        error: Error::FormatError("invalid stream header"),
+        frames: report(alloc, stream)?,
+    };
+    Ok(wrong_head_text(alloc, &head, is_brief)?.as_str() == want)
+}
+
+#[test]
+fn wrong_heads(rt: HostRuntime) -> Result<(), Fail> {
+    for (stream, is_brief, want) in &WITHOUT_HEADS {
+        assert!(rt;
+            is_without_head(rt.alloc(), *stream, *is_brief, *want)?,
+            "{want}"
+        );
     }
     Ok(())
 }
