@@ -96,6 +96,7 @@ class Kinds(unittest.TestCase):
     def test_streams(self) -> None:
         """The kind of each small stream that isn't right, by its name."""
         wanted = (
+            (r"^a wrong head|^another marker$", "no head of a FLAC file"),
             (r"swapped|too early", "frames are out of order"),
             (r"^the last frame missing|^(33|48|[0-9]{11}) samples in", "cut off before the end"),
             (r"overwritten|missing|from 1 on|a gap", "frames are missing"),
@@ -108,7 +109,6 @@ class Kinds(unittest.TestCase):
             (r"samples in the streaminfo$", "another number of samples"),
             (r"^no frame, but samples$|^cut ", "cut off before the end"),
             (r"^(an empty file|41 bytes)$", "cut off before the end"),
-            (r"^another marker$", "no head of a FLAC file"),
             (r"^an (ID3v1|APE) tag after$|^a tag, unknown", "only a tag after the last frame"),
             (r"flipped|^bytes between|^a byte is|damage|^a negative shift", "frames can't be decoded"),
             (r"after", "only other bytes after the last frame"),

@@ -1,8 +1,9 @@
 """What `claxon verify` has to say of a stream, as far as the slow decoder tells: all places, but
-for the names of faults.
+for the names of faults; of a stream whose head is wrong those of its frames.
 
 It was written from RFC 9639 and docs/man/claxon.1, without claxon's code.
 """
+import contextlib
 import dataclasses
 from typing import Any, Dict, List, NamedTuple, Optional, Sequence, Tuple
 
@@ -144,14 +145,25 @@ class Place:
         return self.start, self.end, self.first, self.after, self.what
 
 
+class FirstFrame(StreamInfo):
+    """What the first frame that says its whole format says, where the head is wrong."""
+
+
+def said(streaminfo: StreamInfo, number: int) -> str:
+    """The number that a frame should have, and what says it."""
+    if isinstance(streaminfo, FirstFrame):
+        return f"but the first frame has {number}"
+    return f"but the streaminfo says {number}"
+
+
 def other_format(streaminfo: StreamInfo, header: FrameHeader) -> Optional[str]:
     """How a frame's format differs from the streaminfo's, or None."""
     if header.channels != streaminfo.channels:
         counted = "1 channel" if header.channels == 1 else f"{header.channels} channels"
-        return f"{counted}, but the streaminfo says {streaminfo.channels}"
+        return f"{counted}, {said(streaminfo, streaminfo.channels)}"
     if header.bit_depth != streaminfo.bits_per_sample:
         counted = "1 bit" if header.bit_depth == 1 else f"{header.bit_depth} bits"
-        return f"{counted} per sample, but the streaminfo says {streaminfo.bits_per_sample}"
+        return f"{counted} per sample, {said(streaminfo, streaminfo.bits_per_sample)}"
     return None
 
 
@@ -162,12 +174,14 @@ def other_stream(streaminfo: StreamInfo, due: Due, frame: Frame) -> Optional[str
     if other is not None:
         return other
     if header.sample_rate not in (None, streaminfo.sample_rate):
-        return f"{header.sample_rate} Hz, but the streaminfo says {streaminfo.sample_rate}"
+        return f"{header.sample_rate} Hz, {said(streaminfo, streaminfo.sample_rate)}"
     if due.strategy not in (None, header.is_variable):
         return "the blocking strategy differs from the first frame's"
     bit_depth = streaminfo.bits_per_sample
     if not all(fits(sample, bit_depth) for channel in frame.channels for sample in channel):
-        return "a sample has more bits than the streaminfo says"
+        is_first = isinstance(streaminfo, FirstFrame)
+        than = "those of the first frame" if is_first else "the streaminfo says"
+        return f"a sample has more bits than {than}"
     last = due.sample + header.block_size
     if streaminfo.samples and due.sample <= streaminfo.samples < last:
         return "frames after the streaminfo's last sample"
@@ -182,12 +196,15 @@ class Places:
         self._due = Due()
         self._begun: Optional[Place] = None
         self.ended: List[Place] = []
+        self.frames, self.samples = 0, 0
 
     def begin(self, at: int, what: str) -> None:
         self._begun = self._begun or Place(at, self._due.sample, what)
 
     def add(self, at: int, frame: Frame) -> None:
         due, number = self._due, frame.header.coded_number
+        self.frames += 1
+        self.samples += frame.header.block_size
         what = other_stream(self._streaminfo, due, frame)
         sample = due.first_sample(self._streaminfo, frame)
         last = self.ended[-1] if self.ended else None
@@ -232,6 +249,9 @@ class Places:
             self._begun.end, self._begun.after = end, max(self._due.sample, samples)
             self.ended.append(self._begun)
 
+    def told(self) -> List[Tuple[int, int, int, int, str]]:
+        return [place.told() for place in self.ended]
+
 
 def frame_at(data: bytes, at: int, streaminfo: StreamInfo) -> Optional[Frame]:
     """The frame of the stream that begins at this byte, if one does."""
@@ -245,17 +265,33 @@ def frame_at(data: bytes, at: int, streaminfo: StreamInfo) -> Optional[Frame]:
 
 
 def why_none(data: bytes, at: int, streaminfo: StreamInfo) -> str:
-    """How the format of the header at this byte differs, if there is one, or ""."""
+    """How the format of the header at this byte differs, if there is one, or "". Where the head is
+    wrong it is what stands at the first byte."""
+    none = "the head" if at == 0 and isinstance(streaminfo, FirstFrame) else ""
     try:
         header = slow_decoder.read_header(data[at:], streaminfo.bits_per_sample)
     except Fault:
-        return ""
-    return other_format(streaminfo, header) or ""
+        return none
+    return other_format(streaminfo, header) or none
 
 
-def places_of(
-    data: bytes, at: int, streaminfo: StreamInfo
-) -> List[Tuple[int, int, int, int, str]]:
+def format_of(data: bytes) -> Optional[FirstFrame]:
+    """What the first frame says that says its bit depth, if there is one."""
+    for at in range(len(data) - 1):
+        if data[at] != 0xFF or data[at + 1] not in (0xF8, 0xF9):
+            continue
+        with contextlib.suppress(Fault):
+            if slow_decoder.read_header(data[at:], 0).bit_depth == 0:
+                continue
+            header = slow_decoder.read_frame(data[at:], 0).header
+            size, rate = header.block_size, header.sample_rate or 0
+            return FirstFrame(
+                size, size, rate, header.channels, header.bit_depth, 0, bytes(16)
+            )
+    return None
+
+
+def places_of(data: bytes, at: int, streaminfo: StreamInfo) -> Places:
     """The places of a stream whose frames begin at this byte. Damage ends where the next frame
     begins; what is wrong in it is "". One byte after the last frame is no place."""
     places = Places(streaminfo)
@@ -271,7 +307,7 @@ def places_of(
             places.begin(at, why_none(data, at, streaminfo))
         at = end
     places.finish(len(data))
-    return [place.told() for place in places.ended]
+    return places
 
 
 def has_small_frames(streaminfo: StreamInfo) -> bool:
@@ -294,7 +330,7 @@ def are_told(
 ) -> bool:
     """Whether the places that are found are the first of those that are wanted, with as many left
     out; of files with large frames whether the first begins where it has to."""
-    if wanted and not has_small_frames(streaminfo):
+    if wanted and not isinstance(streaminfo, FirstFrame) and not has_small_frames(streaminfo):
         return bool(found) and (found[0][0], found[0][2]) == (wanted[0][0], wanted[0][2])
     is_whole = len(wanted) == len(found) + left_out
     return is_whole and all(map(are_same, found, wanted))
@@ -317,21 +353,43 @@ def has_right_sum(streaminfo: StreamInfo, expected: Reading) -> bool:
     return streaminfo.md5 == slow_decoder.md5_of(expected.frames, streaminfo.bits_per_sample)
 
 
+def places_in(found: Dict[str, Any]) -> List[Tuple[Any, ...]]:
+    """The places of an object."""
+    keys = "start_byte", "end_byte", "start_sample", "end_sample", "what"
+    return [tuple(place[key] for key in keys) for place in found["places"]]
+
+
+def difference_of_frames(data: bytes, found: Dict[str, Any]) -> Optional[str]:
+    """The same of a file whose head is wrong: its frames are told where one of them says its bit
+    depth."""
+    known = format_of(data)
+    if known is None or "frames" not in found:
+        return None if known is None and "frames" not in found else "verify: frames without a head"
+    keys = "frames", "samples", "sample_rate", "channels", "bits_per_sample", "md5"
+    wanted = places_of(data, 0, known)
+    numbers = known.sample_rate, known.channels, known.bits_per_sample
+    if tuple(map(found.get, keys)) != (wanted.frames, wanted.samples, *numbers, "not computed"):
+        return "verify: numbers of a file without a head"
+    if not are_told(known, places_in(found), found.get("left_out", 0), wanted.told()):
+        return "verify: places of a file without a head"
+    return None
+
+
 def difference(data: bytes, expected: Reading, found: Dict[str, Any]) -> Optional[str]:
     """How the object that `claxon verify --json` prints differs from what is expected, or None."""
     verdict, head = found["verdict"], head_of(data)
+    if head is None and verdict == "wrong":
+        return difference_of_frames(data, found)
     if head is None:
         has_head = "frames" in found or verdict == "ok"
         return f"verify: {verdict}, but no head" if has_head else None
-    if "frames" not in found:
+    if "frames" not in found or ("reason" in found and verdict == "wrong"):
         return "verify: a head that is refused"
     if expected.streaminfo is None:
         expected = reading_after(data, head)
     streaminfo = head.streaminfo
-    wanted = places_of(data, head.end, streaminfo)
-    keys = "start_byte", "end_byte", "start_sample", "end_sample", "what"
-    places = [tuple(place[key] for key in keys) for place in found["places"]]
-    if not are_told(streaminfo, places, found.get("left_out", 0), wanted):
+    wanted = places_of(data, head.end, streaminfo).told()
+    if not are_told(streaminfo, places_in(found), found.get("left_out", 0), wanted):
         return "verify: places"
     if wanted:
         return "verify: right with a place" if verdict == "ok" else None

@@ -22,6 +22,9 @@ BYTE_NOTE, MD5_NOTE, LENGTH_NOTE = "1 byte after the last frame", "no MD5 sum", 
 STRATEGY = "the blocking strategy differs from the first frame's"
 WIDE_SAMPLE = "a sample has more bits than the streaminfo says"
 WRONG_MD5 = "but their MD5 sum isn't that of the streaminfo"
+NO_FILE, HEAD = "not a FLAC file", "the head"
+INFO_LENGTH = "Ill-formed FLAC stream: invalid streaminfo metadata block length"
+SECOND = ": a second stream begins"
 # The first byte of a place and that after it, the first sample and that after it, and what is
 # wrong.
 Place = Tuple[int, int, int, int, str]
@@ -124,7 +127,7 @@ def flipped(data: bytes, positions: Iterable[int], bit: int = 1) -> bytes:
 class Row:
     """A stream, and what is to be said of it: the line without the name, the first place as a
     brief line has it, and the parts of the JSON object. Without `counts` there are no frames, but a
-    reason."""
+    reason; with both the head is wrong, or something isn't supported."""
 
     name: str
     data: bytes
@@ -141,6 +144,10 @@ class Row:
     @property
     def verdict(self) -> str:
         return self.line.split(",")[0]
+
+    @property
+    def has_wrong_head(self) -> bool:
+        return self.verdict == "wrong" and self.reason is not None
 
     @property
     def status(self) -> int:
@@ -175,7 +182,7 @@ class Row:
                 notes=list(self.notes),
             )
             said = int.from_bytes(self.data[18:26], "big") % 2 ** 36
-            if said:
+            if said and not self.has_wrong_head:
                 wanted["streaminfo_samples"] = said
         if self.reason is not None:
             wanted["reason"] = self.reason
@@ -217,25 +224,59 @@ def wrong(
     it is another one, and `unsupported` what isn't supported of a metadata block. Where neither
     places nor the number are wrong, the MD5 sum is."""
     parts = [] if said is None else [f"but the streaminfo says {said}"]
-    first_place = ""
     if not places and said is None:
         parts.append(WRONG_MD5)
     if unsupported is not None:
         parts.append(f"not supported: {unsupported}")
         notes += (f"not supported: {unsupported}",)
-    if places:
-        start, _, first, _, what = places[0]
-        parts.append("1 place" if len(places) == 1 else f"{len(places)} places")
-        before = "" if len(places) == 1 else ", the first"
-        first_place = f"{before} at byte {start} after {first} samples: {what}"
-    line = line_of("wrong", counts, *parts)
+    line = line_of("wrong", counts, *parts, *number_of(places))
     members.setdefault("md5", "none" if MD5_NOTE in notes else "wrong")
-    return Row(name, data, line, counts, first_place, places, notes=notes, **members)
+    return Row(name, data, line, counts, first_of(places), places, notes=notes, **members)
+
+
+def number_of(places: Sequence[Place]) -> List[str]:
+    """How many places there are, if there are some, as a part of a line."""
+    return ["1 place" if len(places) == 1 else f"{len(places)} places"] if places else []
+
+
+def first_of(places: Sequence[Place]) -> str:
+    """What a brief line has of the first place."""
+    if not places:
+        return ""
+    start, _, first, _, what = places[0]
+    before = "" if len(places) == 1 else ", the first"
+    return f"{before} at byte {start} after {first} samples: {what}"
 
 
 def refused(name: str, data: bytes, verdict: str, reason: str) -> Row:
     """A row of a stream whose head is refused."""
     return Row(name, data, f"{verdict}, {reason}", reason=reason)
+
+
+def headless(
+    name: str,
+    data: bytes,
+    counts: Tuple[int, int],
+    *places: Place,
+    reason: str = NO_FILE,
+    notes: Tuple[str, ...] = (),
+    stream: Format = PLAIN,
+) -> Row:
+    """A row of a stream whose head is wrong, and whose frames are told, but of standard input."""
+    line = line_of(f"wrong, {reason}", counts, *number_of(places))
+    return Row(
+        name,
+        data,
+        line,
+        counts,
+        first_of(places),
+        places,
+        md5="not computed",
+        notes=notes,
+        reason=reason,
+        stream=stream,
+        once=refused(name, data, "wrong", reason),
+    )
 
 
 def right_rows() -> Iterator[Row]:
@@ -483,9 +524,8 @@ def trailing_rows() -> Iterator[Row]:
     ):
         place = bytes_after(64, 32, more, what)
         yield wrong(name + " after", TWO + more, (2, 32), place, md5="ok")
-    second = ": a second stream begins"
     for name, more, counts in ("as long", TWO, (4, 64)), ("longer", THREE, (5, 80)):
-        place = bytes_after(64, 32, more, second)
+        place = bytes_after(64, 32, more, SECOND)
         yield wrong(f"a second stream, {name}", TWO + more, counts, place, said=32)
     tag = b"TAG".ljust(128, b"\0")
     yield wrong(
@@ -618,7 +658,6 @@ def head_rows() -> Iterator[Row]:
     """Streams that are refused before a frame, or because of what isn't supported."""
     yield refused("an empty file", b"", "wrong", CUT_HEAD)
     yield refused("41 bytes", TWO[:41], "wrong", CUT_HEAD)
-    yield refused("another marker", b"fLaD" + TWO[4:], "wrong", "not a FLAC file")
     unsupported, tag = "not supported", "an ID3v2 tag in front of the stream"
     # RFC 3533, section 6; ISO/IEC 14496-12, section 4.3.
     yield refused("a page of Ogg", b"OggS\0\2" + bytes(20) + TWO, unsupported, "an Ogg file")
@@ -649,6 +688,119 @@ def head_rows() -> Iterator[Row]:
             reason=reason,
             stream=stream,
         )
+
+
+def without_marker(data: bytes) -> bytes:
+    return b"fLaD" + data[4:]
+
+
+def headless_rows() -> Iterator[Row]:
+    """Streams whose heads are wrong: what their frames are by what they say themselves."""
+    at_head, short = (0, 42, 0, 0, HEAD), without_marker(THREE)
+    yield headless("another marker", without_marker(TWO), (2, 32), at_head)
+    what, lost = "a wrong head, ", (0, 0, 0, 16, MISSING)
+    yield headless(what + "it is missing", TWO[42:], (2, 32))
+    yield headless(what + "20 bytes are missing", TWO[20:], (2, 32), (0, 22, 0, 0, HEAD))
+    yield headless(what + "53 bytes are missing", THREE[53:], (2, 32), lost)
+    yield headless(what + "50 bytes are missing", THREE[50:], (2, 32), (0, 3, 0, 16, HEAD))
+    place = 0, 53, 0, 16, HEAD
+    yield headless(what + "the first frame too", flipped(short, [50]), (2, 32), place)
+    for name, position, place in (
+        ("a frame too", 61, (53, 64, 16, 32, CRC)),
+        ("the last frame too", 72, (64, 75, 32, 32, CRC)),
+    ):
+        yield headless(what + name, flipped(short, [position]), (2, 32), at_head, place)
+    for name, data, end, reason in (
+        ("no streaminfo", b"fLaC\1" + TWO[5:], 42, "streaminfo block missing"),
+        (
+            "a short streaminfo",
+            TWO[:7] + b"\x21" + TWO[8:41] + TWO[42:],
+            41,
+            "invalid streaminfo metadata block length",
+        ),
+        (
+            "other block sizes",
+            numbered([0, 1], stream=Format(blocks=(32, 16)), frames=PLAIN),
+            42,
+            "inconsistent bounds, min block size > max block size",
+        ),
+        *wrong_comments(),
+    ):
+        reason = f"Ill-formed FLAC stream: {reason}"
+        yield headless(what + name, data, (2, 32), (0, end, 0, 0, HEAD), reason=reason)
+    data = TWO[:5] + b"\1" + TWO[6:]
+    yield headless(what + "a long streaminfo", data, (2, 32), at_head, reason=INFO_LENGTH)
+    data = with_blocks(TWO, b"\1\1\0\0" + bytes(4))
+    place = 0, len(data) - 22, 0, 0, HEAD
+    yield headless(what + "a long block", data, (2, 32), place, reason=CUT_HEAD)
+    yield from headless_format_rows(what, at_head)
+    yield from headless_end_rows(what, at_head)
+
+
+def wrong_comments() -> Iterator[Tuple[str, bytes, int, str]]:
+    """Streams of two frames with Vorbis comments in which a length, a number or the type is wrong:
+    the name, the stream, where its first frame begins, and what is wrong."""
+    data = with_blocks(TWO, comments(b"vendor", b"A=b"))
+    for name, position, reason in (
+        ("a long vendor string", 49, "vendor string too long"),
+        ("many tags", 58, "too many entries for Vorbis comment block"),
+        ("a long tag", 62, "Vorbis comment too long for Vorbis comment block"),
+    ):
+        yield name, flipped(data, [position]), len(data) - 22, reason
+    data = data[:42] + b"\x7f" + data[43:]
+    yield "another type of block", data, len(data) - 22, "invalid metadata block type"
+
+
+def plain_frame(number: int, sample: int) -> bytes:
+    """A frame that leaves the bit depth to the streaminfo."""
+    header = writer.frame_header(
+        16, rate_code=writer.RATE_CODES[44100], number=number, is_small=True
+    )
+    return writer.frame(header, [writer.constant(sample, 8)])
+
+
+def headless_format_rows(what: str, at_head: Place) -> Iterator[Row]:
+    """Frames of other formats, and those that don't say theirs."""
+    deep = Format(bits=24, channels=2)
+    data = without_marker(numbered([0, 1], stream=deep))
+    yield headless(what + "24 bits, two channels", data, (2, 32), at_head, stream=deep)
+    front, last = without_marker(THREE[:53]), frame(2, 3)
+    for other, counts, text in (
+        (Format(channels=2), (2, 32), "2 channels, but the first frame has 1"),
+        (Format(bits=16), (2, 32), "16 bits per sample, but the first frame has 8"),
+        (Format(rate=48000), (3, 48), "48000 Hz, but the first frame has 44100"),
+    ):
+        middle = frame(1, 2, stream=other)
+        place = 53, 53 + len(middle), 16, 32, text
+        yield headless(what + text, front + middle + last, counts, at_head, place)
+    text = "a sample has more bits than those of the first frame"
+    data = front + wide_frame(1, 200) + last
+    yield headless(what + text, data, (3, 48), at_head, (53, 83, 16, 32, text))
+    data = front + variable(16, 2) + last
+    yield headless(what + STRATEGY, data, (3, 48), at_head, (53, 64, 16, 32, STRATEGY))
+    empty = without_marker(head(32, bytes(16)))
+    data = empty + plain_frame(0, 1) + frame(1, 2)
+    yield headless(what + "a frame that says no bit depth", data, (2, 32), at_head)
+    data = empty + plain_frame(0, 1) + plain_frame(1, 2)
+    yield refused(what + "frames that say no bit depth", data, "wrong", NO_FILE)
+    data = without_marker(numbered([0, 1], frames=Format(rate=12345)))
+    no_rate = Format(rate=0)
+    yield headless(what + "no sample rate", data, (2, 32), at_head, stream=no_rate)
+
+
+def headless_end_rows(what: str, at_head: Place) -> Iterator[Row]:
+    """What is missing, and what stands after the last frame."""
+    two, tag = without_marker(TWO), b"TAG".ljust(128, b"\0")
+    for name, data, counts, place in (
+        ("a frame missing", numbered([0, 2]), (2, 32), SECOND_MISSING),
+        ("a cut frame", TWO[:60], (1, 16), (53, 60, 16, 16, CUT)),
+        ("a tag", TWO + tag, (2, 32), bytes_after(64, 32, tag, ": an ID3v1 tag")),
+        ("a second stream", TWO + TWO, (4, 64), bytes_after(64, 32, TWO, SECOND)),
+    ):
+        yield headless(what + name, without_marker(data), counts, at_head, place)
+    yield headless(what + "a byte after", two + b"\xff", (2, 32), at_head, notes=(BYTE_NOTE,))
+    yield refused(what + "no frame", two[:42], "wrong", NO_FILE)
+    yield refused(what + "no frame, but zeros", two[:42] + bytes(100), "wrong", NO_FILE)
 
 
 def comments(vendor: bytes, *tags: bytes, left: bytes = b"") -> bytes:
@@ -711,5 +863,5 @@ def large_rows() -> Iterator[Row]:
 def rows() -> Iterator[Row]:
     """All but those of `large_rows`."""
     parts = right_rows, order_rows, strategy_rows, format_rows, wide_rows, sum_rows, lost_rows
-    for part in (*parts, trailing_rows, fault_rows, head_rows, block_rows):
+    for part in (*parts, trailing_rows, fault_rows, head_rows, block_rows, headless_rows):
         yield from part()

@@ -28,6 +28,8 @@ mod verify_command;
 #[cfg(test)]
 mod verify_files;
 #[cfg(test)]
+mod verify_heads;
+#[cfg(test)]
 mod verify_options;
 #[cfg(test)]
 mod wav_headers;

@@ -10,15 +10,17 @@ use claxon_command_line::messages::{Part, print_error, shown_name};
 use claxon_command_line::names::{escaped_bytes, not_utf8_name, read_name};
 use claxon_command_line::progress::{Position, Progress, file_label};
 use claxon_program::Program;
+use claxon_recovery::find_format;
 use claxon_verdict::container::container;
 use claxon_verdict::options::{FileNames, NamedFiles, Options, VerifyRequest, parse};
 use claxon_verdict::print::{
     PrintOptions, print_failure, print_not_read, print_report, print_summary, print_unread,
+    print_wrong_head,
 };
 use claxon_verdict::tally::Tally;
-use claxon_verdict::verdict::Verdict;
+use claxon_verdict::verdict::{Verdict, WrongHead};
 use claxon_verify::report::Report;
-use claxon_verify::{verify, verify_parts};
+use claxon_verify::{verify, verify_frames, verify_parts};
 use std::alloc::Global;
 use std::io::{Cursor, Read, Write};
 use std::rt::Files;
@@ -337,7 +339,10 @@ where
 {
     let (alloc, options, name) = (rt.alloc(), job.options.print, file.name);
     let verdict = match verify_shown(rt, job, file, input, errors) {
-        Ok(report) => print_report(alloc, name, &report, options, output, errors),
+        Ok(Verified::Stream(report)) => print_report(alloc, name, &report, options, output, errors),
+        Ok(Verified::Frames(head)) => {
+            print_wrong_head(alloc, name, &head, options, output, errors)
+        }
         Err(_) if name != STANDARD && is_folder(rt, name) => {
             print_not_read(alloc, name, IS_FOLDER, options, output, errors)
         }
@@ -356,7 +361,7 @@ fn verify_shown<Q: Files + AllocGlobal, I: Read + Copy, E: Write>(
     file: NamedFile<'_>,
     input: I,
     errors: &mut E,
-) -> claxon::Result<Report>
+) -> claxon::Result<Verified>
 where
     Q::File: Read,
 {
@@ -391,9 +396,47 @@ where
     BufferedReader::new(rt.alloc(), input)
 }
 
-// Verifies a file: again by its parts, if it has places and can be read again, so that damage ends where the next frame begins.
-// A file in Ogg or MP4 isn't supported by this name.
+// What was found in a file.
+#[derive(Drop)]
+enum Verified {
+    // Its head and its frames.
+    Stream(Report),
+    // Its frames, as the head is wrong.
+    Frames(WrongHead),
+}
+
+// Verifies a file: again by its parts, if it has places and can be read again, so that damage ends where the next frame begins;
+// or by its frames alone, if its head is wrong. A file in Ogg or MP4 isn't supported by this name.
 fn verify_file<Q: Files + AllocGlobal, I: Read + Copy, E: Write>(
+    rt: &Q,
+    options: Options,
+    name: &str,
+    input: I,
+    progress: &mut Progress<'_, '_, E>,
+) -> claxon::Result<Verified>
+where
+    Q::File: Read,
+{
+    match verify_once(rt, options, name, input, progress) {
+        Ok(report) if is_worth_parts(&report) && is_lasting(rt, name) => {
+            match verify_again(rt, options, name, input, progress) {
+                Ok(again) if !again.is_right => Ok(Verified::Stream(again)),
+                _ => Ok(Verified::Stream(report)),
+            }
+        }
+        Ok(report) => Ok(Verified::Stream(report)),
+        Err(error) if is_wrong(&error) && is_lasting(rt, name) => {
+            match verify_without_head(rt, options, name, input, progress) {
+                Ok(Some(frames)) => Ok(Verified::Frames(WrongHead { error, frames })),
+                _ => Err(error),
+            }
+        }
+        Err(error) => Err(error),
+    }
+}
+
+// Verifies a file, which is read once.
+fn verify_once<Q: Files + AllocGlobal, I: Read + Copy, E: Write>(
     rt: &Q,
     options: Options,
     name: &str,
@@ -415,14 +458,18 @@ where
         progress,
     ) {
         Err(Error::FormatError(_)) if let Some(format) = format => Err(Error::Unsupported(format)),
-        Ok(report) if is_worth_parts(&report) && name != STANDARD && !is_no_file(rt, name) => {
-            match verify_again(rt, options, name, input, progress) {
-                Ok(again) if !again.is_right => Ok(again),
-                _ => Ok(report),
-            }
-        }
         answer => answer,
     }
+}
+
+// Whether a file can be read again by its name.
+fn is_lasting<Q: Files>(rt: &Q, name: &str) -> bool {
+    name != STANDARD && !is_no_file(rt, name)
+}
+
+// Whether an error says that a head is wrong, and not that it isn't supported or can't be read.
+fn is_wrong(error: &Error) -> bool {
+    matches!(Verdict::of_error(error), Verdict::Wrong)
 }
 
 // Whether a stream that could be read has a place that isn't right, where a fault may be in any, and its frames are small.
@@ -461,6 +508,28 @@ where
         options.more_places,
         progress,
     )
+}
+
+// Verifies the frames of a file whose head is wrong, by the format of the first one that says it; None if there is none.
+fn verify_without_head<Q: Files + AllocGlobal, I: Read + Copy, E: Write>(
+    rt: &Q,
+    options: Options,
+    name: &str,
+    input: I,
+    progress: &mut Progress<'_, '_, E>,
+) -> claxon::Result<Option<Report>>
+where
+    Q::File: Read,
+{
+    let Some(info) = find_format(rt.alloc(), open(rt, name, input)?)? else {
+        return Ok(None);
+    };
+    let mut source = open(rt, name, input)?;
+    let report = verify_frames(rt.alloc(), &mut source, info, options.more_places, progress)?;
+    if report.found.frames == 0 {
+        return Ok(None);
+    }
+    Ok(Some(report))
 }
 
 // The first bytes of an input: as many as a `BufferedReader` reads. A read that fails is left to be tried again.

@@ -58,14 +58,21 @@ def kind_of(row: Row) -> Kind:
         return Kind(shown_text(damage.split(": ")[0]), damage.startswith("an ID3v2 tag"))
     if is_cut(row):
         return Kind(_CUT)
-    if row["samples"] is None:
+    if row["samples"] is None or has_wrong_head(row):
         return Kind(_HEAD)
     return _kind_after(row) or _kind_of_frames(damage)
+
+
+def has_wrong_head(row: Row) -> bool:
+    """Whether the head is wrong, and the frames are told without it. They have no MD5 sum then."""
+    return str(row["md5"]) == "not computed"
 
 
 def is_cut(row: Row) -> bool:
     """Whether the file ends before its last frame does."""
     damage = str(row["damage"])
+    if has_wrong_head(row):
+        return False
     if damage.startswith("truncated") or missing_part(row) > 0:
         return True
     if re.search(_MISSING, damage) and row["sample"] == row["samples"]:
