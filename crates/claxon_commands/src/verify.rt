@@ -1,6 +1,9 @@
 //! The command `verify`: whether FLAC files are right.
+ghost use Rattle.std.specs.Prelude.{IfOk, IfSome};
+ghost use Rattle.claxon.specs.ShownHead.{HasBitDepth};
+
 use claxon::Error;
-use claxon::input::BufferedReader;
+use claxon::input::{BufferedReader, ReadBytes};
 use claxon::metadata::StreamInfo;
 use claxon_command_line::folders::{
     add_contents, is_flac_name, is_folder, is_no_file, is_real_folder,
@@ -10,7 +13,7 @@ use claxon_command_line::messages::{Part, print_error, shown_name};
 use claxon_command_line::names::{escaped_bytes, not_utf8_name, read_name};
 use claxon_command_line::progress::{Position, Progress, file_label};
 use claxon_program::Program;
-use claxon_recovery::find_format;
+use claxon_recovery::{Parts, info_of_frame};
 use claxon_verdict::container::container;
 use claxon_verdict::options::{FileNames, NamedFiles, Options, VerifyRequest, parse};
 use claxon_verdict::print::{
@@ -530,6 +533,19 @@ where
         return Ok(None);
     }
     Ok(Some(report))
+}
+
+// What the first frame that says its whole format itself says of its stream, if there is one.
+fn find_format<R: ReadBytes>(alloc: Global, source: R) -> claxon::Result<Option<StreamInfo>>
+where
+    R: Drop,
+    ensures { IfOk result (λ found. IfSome found HasBitDepth) }
+{
+    let mut parts = Parts::new(alloc, source, None, 0)?;
+    match parts.next_frame()? {
+        Some(there) => Ok(Some(info_of_frame(&there.frame.info))),
+        None => Ok(None),
+    }
 }
 
 // The first bytes of an input: as many as a `BufferedReader` reads. A read that fails is left to be tried again.
