@@ -38,3 +38,5 @@ pub mod PartsTrailed
 pub mod FaultBytes
 -- What stands after the last frame of a stream that is verified frame by frame.
 pub mod FramesTrailed
+-- Frames that are verified alone, as those of a stream whose head can't be read.
+pub mod FramesVerified

@@ -1,3 +1,4 @@
+pub mod FramesAlone
 pub mod Kept
 pub mod Notes
 pub mod PartFaults

@@ -46,6 +46,7 @@ use std::io::Write;
 use walk::{ByteRange, Walk, at_end, too_many, trailing, with_fault, with_frame};
 
 mod due;
+mod frames;
 mod parts;
 mod places;
 pub mod report;
@@ -54,6 +55,7 @@ mod sizes;
 pub mod trailing;
 mod walk;
 
+pub use frames::verify_frames;
 pub use parts::verify_parts;
 
 /// Decodes all frames of a stream, and goes on after each fault but an `IoError`. The MD5 sum of the samples is computed if

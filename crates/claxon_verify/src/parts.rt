@@ -104,8 +104,8 @@ fn verify_counted_parts<R: ReadBytes, E: Write>(
     Ok(report_of(info, unsupported, walk))
 }
 
-// Finds parts up to the end.
-fn walk_parts<R: ReadBytes, E: Write>(
+/// Finds parts up to the end.
+pub(crate) fn walk_parts<R: ReadBytes, E: Write>(
     alloc: Global,
     parts: &mut Parts<R>,
     info: StreamInfo,
