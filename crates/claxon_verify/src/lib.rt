@@ -11,7 +11,7 @@ ghost use Rattle.claxon_verify.specs.Kept.{AreKept, Keeps};
 ghost use Rattle.claxon_verify.specs.Notes.{NotesAreExact, WalkIsNoted};
 ghost use Rattle.claxon_verify.specs.Places.{places_at};
 ghost use Rattle.claxon_verify.specs.Trailing.{TrailingOf, VerifyTrailingIsTold, WalksToTail};
-ghost use Rattle.claxon_heads.specs.BytesRead.{counted_bytes, last_of, position_of, update_position};
+ghost use Rattle.claxon_heads.specs.BytesRead.{counted_bytes, position_of};
 ghost use Rattle.claxon_verify.specs.Verify.{
   KeepsAtMost,
   NothingIsWrong,

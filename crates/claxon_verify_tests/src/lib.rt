@@ -8,6 +8,8 @@ mod frames;
 #[cfg(test)]
 mod hashing;
 #[cfg(test)]
+mod lost_heads;
+#[cfg(test)]
 mod memory;
 #[cfg(test)]
 mod notes;

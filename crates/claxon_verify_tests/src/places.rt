@@ -99,7 +99,8 @@ const ROWS: [(Info, &[Part], &[Found]); 29] = [
     ((16, 80), &[RIGHT_0, RIGHT_1, FLIPPED_2, RIGHT_0, FLIPPED_1, RIGHT_3, RIGHT_4], &[(64, 97, 32, 48, CRC)]),
 ];
 
-fn are(places: &Places, wants: &[Found]) -> bool {
+/// Whether these are the places.
+pub fn are(places: &Places, wants: &[Found]) -> bool {
     let Some(first) = &places.first else {
         return wants.is_empty();
     };
