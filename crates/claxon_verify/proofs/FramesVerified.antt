@@ -1,6 +1,6 @@
 -- Frames that are verified alone, as those of a stream whose head can't be read.
 use Rattle.std.specs.Borrow.{MutBor}
-use Rattle.std.proofs.Common.{◌≡◌, ◌≤◌, ◌^◌, ℕ, List, ◌++◌, length, inl, inr, sym, ap, subst, ◌∙◌}
+use Rattle.std.proofs.Common.{Some, ◌≡◌, ◌≤◌, ◌^◌, ℕ, List, ◌++◌, length, inl, inr, sym, ap, subst, ◌∙◌}
 use Rattle.std.specs.Prelude.{Bool, false, None, ◌↔◌}
 use Rattle.claxon.specs.Errors.{Error}
 use Rattle.claxon.specs.MetadataBlock.{info_view, or_zero}
@@ -33,7 +33,7 @@ use Rattle.claxon_verify.proofs.Verified.{judged_md5, shown_md5}
 
 -- ---- from where the parts begin
 
-module _ {R : Type 0} (source : R → Source ℕ) {info : StreamInfo} {start : ℕ} {input : MutBor R} {p : Parts (MutBor R)} (begins : BeginsParts input info start p) (first : start ≡ 0) where
+module _ {R : Type 0} (source : R → Source ℕ) {info : StreamInfo} {start : ℕ} {input : MutBor R} {p : Parts (MutBor R)} (begins : BeginsParts input (Some info) start p) (first : start ≡ 0) where
   known_unread : RemainingIsKnown (bytes_in source input.now) → SourceIsKnown (lent source) p
   unfolding bytes_in
   known_unread k = subst (λ (z : MutBor R). IsKnown (lent source z).remaining) (sym begins.source_is) k

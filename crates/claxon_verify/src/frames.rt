@@ -46,7 +46,7 @@ pub fn verify_frames<R: ReadBytes, E: Write>(
     };
     let start = 0;
     progress.start(info.samples);
-    let mut parts = Parts::new(alloc, input, info, start)?;
+    let mut parts = Parts::new(alloc, input, Some(info), start)?;
     let walk = walk_parts(alloc, &mut parts, info, start, false, more, progress)?;
     Ok(Report {
         is_right: false,
