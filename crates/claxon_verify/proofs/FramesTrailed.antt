@@ -24,7 +24,7 @@ use Rattle.claxon_blocks.specs.Frames.{Is32BitFault, IsNotWhole}
 use Rattle.claxon_blocks.specs.declared.frames.FrameError.{FrameError}
 use Rattle.claxon_blocks.proofs.BlockReads.{BlockIsRead, io_not_fault}
 use Rattle.claxon_verify.specs.Places.{Scans, begun_or, begun_scan, places_at, scan_parts}
-use Rattle.claxon_verify.specs.Trailing.{AreBytes, EndsWithTail, IsLast, IsOfFault, IsOfTail, KeepsFault, KeepsFrame, KeepsIfBegun, KeepsLast, TailOf, TrailingIs, TrailingOf, VerifyTrailingIsTold, WalksToTail, scan_of}
+use Rattle.claxon_verify.specs.Trailing.{AreBytes, EndsWithTail, IsLast, IsOfFault, IsOfTail, KeepsFault, KeepsFrame, KeepsIfBegun, KeepsLast, TailOf, TrailingIs, TrailingIsTold, TrailingOf, WalksToTail, scan_of}
 use Rattle.claxon_blocks.specs.Md5Verdict.{Md5IsJudged, Md5IsShown}
 use Rattle.claxon_verify.specs.Kept.{AreKept, Keeps}
 use Rattle.claxon_heads.specs.StreamHead.{FoundHead}
@@ -181,7 +181,7 @@ cut_to_tail {info = info} {walk = walk} h {byte = byte} at {more = more} fault c
 
 pub frames_told : {a m : State ℕ} (b : State ℕ) {head : FoundHead} {stream : Option StreamFormat} {start : ℕ} (h : HeadIsConsumed a m head stream start) (computes_md5 : Bool) {A B : Type 0} (info : StreamInfo) (walk : Walk A) (report : Report B) (of_info : head.info ≡ info_view info) (unsupported_is : report.unsupported ≡ head.unsupported) (walks : WalksToTail computes_md5 stream (info_view info) start m b walk) (info_is : report.info ≡ info)
     (frames_are : report.found.frames ≡ walk.frames) (samples_are : report.found.samples ≡ walk.samples) (kept : (all : List Place) → Keeps all walk.places → AreKept (places_at walk.end (or_zero info.samples) (record { scan = walk.scan; places = all })) report.found.places.first report.found.places.more.items report.found.places.left_out) (sizes_are : report.found.notes.changed_block_size ≡ walk.sizes.changed)
-    (md5_is : Md5IsJudged (info_view info) walk.md5 report.md5) (md5_shown : Md5IsShown walk.md5 report.computed_md5) (unsupported : Option UnsupportedBlock) (given : report.unsupported ≡ unsupported) (right : IsTrue report.is_right ↔ ((unsupported ≡ None) × NothingIsWrong report.found (or_zero info.samples) report.md5)) (trailing : TrailingOf info.samples walk report.trailing) → VerifyTrailingIsTold computes_md5 a (Ok report) b
+    (md5_is : Md5IsJudged (info_view info) walk.md5 report.md5) (md5_shown : Md5IsShown walk.md5 report.computed_md5) (unsupported : Option UnsupportedBlock) (given : report.unsupported ≡ unsupported) (right : IsTrue report.is_right ↔ ((unsupported ≡ None) × NothingIsWrong report.found (or_zero info.samples) report.md5)) (trailing : TrailingOf info.samples walk report.trailing) → TrailingIsTold computes_md5 a (Ok report) b
 unfolding Rattle.claxon_verify.proofs.Verified.counted_from
 frames_told {a} {m} b {head} {stream} {start} h computes_md5 info walk report of_info unsupported_is walks info_is frames_are samples_are kept sizes_are md5_is md5_shown unsupported given right trailing known bytes =
     let s = h.is known in
@@ -218,6 +218,6 @@ frames_told {a} {m} b {head} {stream} {start} h computes_md5 info walk report of
         (c : Counted (ReadFailedIn a b) z i n m.remaining counts) × Md5Is computes_md5 i (frames_of c.parts) report.md5 × (report.computed_md5 ≡ sum_of computes_md5 i (frames_of c.parts)) × (walk.scan ≡ scan_of i (c.found ++ c.last)) × (walk.end ≡ c.end)
 
 -- through the reader that counts bytes
-pub frames_through : {R A : Type 0} (source : R → Source ℕ) (input : MutBor R) (x y : RunningReader (MutBor R) BytesRead) → running_inner x ≡ input → (computes_md5 : Bool) (result : Result (Report A) Error) → VerifyTrailingIsTold computes_md5 (counted_bytes (lent source) x) result (counted_bytes (lent source) y) → VerifyTrailingIsTold computes_md5 (bytes_in source input.now) result (bytes_in source (running_inner y).now)
+pub frames_through : {R A : Type 0} (source : R → Source ℕ) (input : MutBor R) (x y : RunningReader (MutBor R) BytesRead) → running_inner x ≡ input → (computes_md5 : Bool) (result : Result (Report A) Error) → TrailingIsTold computes_md5 (counted_bytes (lent source) x) result (counted_bytes (lent source) y) → TrailingIsTold computes_md5 (bytes_in source input.now) result (bytes_in source (running_inner y).now)
 unfolding bytes_in
-frames_through {R = R} source input x y at computes_md5 result h = subst (λ (z : MutBor R). VerifyTrailingIsTold computes_md5 (bytes_in source z.now) result (bytes_in source (running_inner y).now)) at h
+frames_through {R = R} source input x y at computes_md5 result h = subst (λ (z : MutBor R). TrailingIsTold computes_md5 (bytes_in source z.now) result (bytes_in source (running_inner y).now)) at h

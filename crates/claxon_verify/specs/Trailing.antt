@@ -156,9 +156,9 @@ PartsTrailingIsTold computes_md5 old result =
 
 -- What is said of bytes after the last frame is so, by what was found. Where a frame isn't whole at
 -- the end, the bytes are counted up to the last one that was read.
-abbrev pub VerifyTrailingIsTold : {A : Type 0} → Bool → State ℕ → Result (Report A) Error
+abbrev pub TrailingIsTold : {A : Type 0} → Bool → State ℕ → Result (Report A) Error
     → State ℕ → Type 0
-VerifyTrailingIsTold computes_md5 old result new =
+TrailingIsTold computes_md5 old result new =
     IfOk result (λ report.
     RemainingIsKnown old → AreBytes old.remaining
     → (is : IsVerified (ReadFailedIn old new) computes_md5 old.remaining (report_view report))

@@ -10,7 +10,7 @@ ghost use Rattle.claxon_command_line.specs.Progress.{StaysQuiet};
 ghost use Rattle.claxon_verify.specs.Kept.{AreKept, Keeps};
 ghost use Rattle.claxon_verify.specs.Notes.{NotesAreExact, WalkIsNoted};
 ghost use Rattle.claxon_verify.specs.Places.{places_at};
-ghost use Rattle.claxon_verify.specs.Trailing.{TrailingOf, VerifyTrailingIsTold, WalksToTail};
+ghost use Rattle.claxon_verify.specs.Trailing.{TrailingIsTold, TrailingOf, WalksToTail};
 ghost use Rattle.claxon_heads.specs.BytesRead.{counted_bytes, position_of};
 ghost use Rattle.claxon_verify.specs.Verify.{
   KeepsAtMost,
@@ -85,8 +85,8 @@ pub fn verify<R: ReadBytes, A: Allocator + Copy, E: Write>(
         (bytes_in R.source input.new) }
     ensures notes_are_exact { NotesAreExact (bytes_in R.source input.old) result
         (bytes_in R.source input.new) }
-    ensures trailing_is_told { VerifyTrailingIsTold computes_md5 (bytes_in R.source input.old)
-        result (bytes_in R.source input.new) }
+    ensures trailing_is_told { TrailingIsTold computes_md5 (bytes_in R.source input.old) result
+        (bytes_in R.source input.new) }
     ensures keeps_at_most { KeepsAtMost more result }
     ensures fault_is_sound { VerifyFaultIsSound (bytes_in R.source input.old) result
         (bytes_in R.source input.new) }
@@ -113,8 +113,8 @@ fn verify_exact<R: ReadBytes, A: Allocator + Copy, E: Write>(
         (bytes_in R.source input.new) }
     ensures notes_are_exact { NotesAreExact (bytes_in R.source input.old) result
         (bytes_in R.source input.new) }
-    ensures trailing_is_told { VerifyTrailingIsTold computes_md5 (bytes_in R.source input.old)
-        result (bytes_in R.source input.new) }
+    ensures trailing_is_told { TrailingIsTold computes_md5 (bytes_in R.source input.old) result
+        (bytes_in R.source input.new) }
     ensures keeps_at_most { KeepsAtMost more result }
     ensures is_quiet { VerifyIsQuiet result progress.old progress.new }
 {
@@ -137,8 +137,8 @@ fn verify_counted<R: ReadBytes, A: Allocator + Copy, E: Write>(
         result (counted_bytes R.source input.new) }
     ensures notes_are_exact { NotesAreExact (counted_bytes R.source input.old) result
         (counted_bytes R.source input.new) }
-    ensures trailing_is_told { VerifyTrailingIsTold computes_md5 (counted_bytes R.source input.old)
-        result (counted_bytes R.source input.new) }
+    ensures trailing_is_told { TrailingIsTold computes_md5 (counted_bytes R.source input.old) result
+        (counted_bytes R.source input.new) }
     ensures keeps_at_most { KeepsAtMost more result }
     ensures is_quiet { VerifyIsQuiet result progress.old progress.new }
     ensures loans { (counted_bytes R.source input.new).source.loans
