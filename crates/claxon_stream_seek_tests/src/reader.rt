@@ -304,8 +304,8 @@ fn has_head<R: Read + Seek>(flac: &SeekableReader<R>) -> bool {
         && flac.position() == 70
 }
 
-// Whether the fourth block isn't found, which leaves the reader at the first one, and the fifth one is.
-fn is_fourth_lost<R: Read + Seek>(flac: &mut SeekableReader<R>) -> bool {
+// Whether frame 4 isn't found, which leaves the reader at the first one, and frame 5 is.
+fn loses_frame_4<R: Read + Seek>(flac: &mut SeekableReader<R>) -> bool {
     finds(flac, 70, None)
         && flac.position() == 70
         && finds(flac, 80, Some(80))
@@ -317,7 +317,7 @@ fn is_shown(alloc: Global, bytes: &[u8]) -> bool {
     match SeekableReader::new(alloc, Cursor::new(bytes)) {
         Ok(flac) => {
             let mut flac = flac;
-            has_head(&flac) && is_fourth_lost(&mut flac) && flac.into_inner().get_ref().len() == 158
+            has_head(&flac) && loses_frame_4(&mut flac) && flac.into_inner().get_ref().len() == 158
         }
         Err(_) => false,
     }
