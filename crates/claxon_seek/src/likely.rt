@@ -225,9 +225,9 @@ fn header_in_eight(
     None
 }
 
-// How many bytes there are, in steps of eight, before eight that may have a byte 0xff, with which each header begins.
+/// How many bytes there are, in steps of eight, before eight that may have a byte 0xff, with which each header begins.
 #[inline(never)]
-fn bytes_without_ff(bytes: &[u8]) -> usize
+pub fn bytes_without_ff(bytes: &[u8]) -> usize
     ensures { result ≤ length bytes.now }
 {
     let (eights, _) = bytes.as_chunks::<8>();

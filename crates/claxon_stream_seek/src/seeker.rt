@@ -11,7 +11,7 @@ use crate::sought::{Sought, has_format};
 use claxon::Result;
 use claxon::frame::{BlockInfo, DecodedFrame};
 use claxon::metadata::StreamInfo;
-use claxon_seek::{FoundFrame, MAX_STEPS, Span, Step, max_block_size};
+use claxon_seek::{FoundFrame, MAX_STEPS, Span, Step, bytes_without_ff, max_block_size};
 use claxon_stream::{
     Event, FrameDecoder, HeaderThere, NeededBytes, ends_there, header_there, held_from,
 };
@@ -390,11 +390,15 @@ fn next_ff(bytes: &[u8], at: u64, position: u64) -> u64
     ensures { position ≤ result }
 {
     let rest = held_from(bytes, at, position);
-    let passed = rest
+    let passed = bytes_without_ff(rest);
+    let left = &rest[passed..];
+    let more = left
         .iter()
         .position(|byte| *byte == 0xff)
-        .unwrap_or(rest.len());
-    position.saturating_add(passed as u64)
+        .unwrap_or(left.len());
+    position
+        .saturating_add(passed as u64)
+        .saturating_add(more as u64)
 }
 
 // How many bytes are asked for where a frame is likely.
