@@ -5,6 +5,7 @@ use Rattle.claxon_format.specs.Header.{common_rate}
 use Rattle.claxon_format.specs.read.Bytes.{bytes_at, big_at}
 use Rattle.claxon_format.specs.read.Header.{rate_at}
 use Rattle.claxon_format.specs.read.Reading.{Done}
+use Rattle.claxon_input.proofs.ByteFields.{first_number}
 use Rattle.claxon_input.proofs.ConsecutiveCalls.{consumes_none}
 use Rattle.claxon_frame.proofs.frame.header.read_rate.Goals as goal
 
@@ -21,3 +22,7 @@ no_field code s small =
 
 pub returns-in_default : goal.returns-in_default
 returns-in_default g c = record { gives = rw c.common_rate_of.ensures (consumes_none _ _ (no_field c.args.code _ (omega arith))) }
+
+pub returns-in_ok-read_be_u16-in-14 : goal.returns-in_ok-read_be_u16-in-14
+unfolding rate_at
+returns-in_ok-read_be_u16-in-14 g c = grind (arith, first_number)

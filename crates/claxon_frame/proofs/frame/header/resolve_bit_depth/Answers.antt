@@ -1,12 +1,13 @@
-use Rattle.std.proofs.Common.{◌≡◌, ℕ, ◌+◌, ◌-◌, ◌<◌, ◌≤◌, Bool, true, false, not, ◌&&◌, List, Option, None, Some, ltb, refl, arith}
+use Rattle.std.proofs.Common.{◌≡◌, ℕ, ◌+◌, ◌-◌, ◌<◌, ◌≤◌, Bool, true, false, not, ◌&&◌, List, Option, None, Some, ltb, refl, arith, rules}
 use Rattle.std.proofs.lemmas.Bool.{le-ltb, lt-ltb}
+use Rattle.claxon_format.specs.Fault.{fault_text}
 use Rattle.claxon_format.specs.Frame.{StreamFormat, known_bit_depth}
 use Rattle.claxon_format.specs.Header.{Fields}
 use Rattle.claxon_format.specs.read.Reading.{Done}
+use Rattle.claxon_format.specs.read.Header.{bit_depth_at}
 use Rattle.claxon_input.proofs.ConsecutiveCalls.{consumes_none}
 use Rattle.claxon_frame.specs.FrameHeader.{HasBitDepthCode, max_bit_depth, bit_depth_code}
 use Rattle.claxon_frame.specs.FrameStart.{fields_view, stream_format_view}
-use Rattle.claxon_format.specs.read.Header.{bit_depth_at}
 use Rattle.claxon_frame.specs.declared.frame.header.parts.ChannelAssignment.{ChannelAssignment}
 use Rattle.claxon_frame.specs.declared.frame.header.parts.ChannelAssignment.TheVariants.{Independent, LeftSideStereo, RightSideStereo, MidSideStereo}
 use Rattle.claxon_frame.specs.declared.frame.header.parts.HeaderFields.{HeaderFields}
@@ -57,3 +58,7 @@ pub returns-in-Independent-clause-gives : goal.returns-in-Independent-clause-giv
 returns-in-Independent-clause-gives c here =
     let few = rw c.in-Independent.is at c.args.fields.now.max_channels in
     consumes_none here _ (independent_read c.args.stream c.args.fields.now c.in-Some-stream.format c.in-Independent.field-0 here.remaining c.in-Some-stream.is c.in_default.is c.in-Independent.is few)
+
+pub returns-in_default-2 : goal.returns-in_default-2
+unfolding bit_depth_at fault_text
+returns-in_default-2 c = search rules
