@@ -1,4 +1,5 @@
 use Rattle.std.proofs.Common.{◌≡◌, ◌+◌, ◌-◌, ◌∙◌, take, drop, ap, subst, arith}
+use Rattle.std.proofs.lemmas.Grind.{common_steps}
 use Rattle.std.proofs.Math.Seq.{take-add}
 use Rattle.claxon_md5.specs.HasherCalls.{HashesBytes, HashesSamples}
 use Rattle.claxon_md5.specs.WholeBytes.{whole_bytes_of_samples}
@@ -29,3 +30,6 @@ loop-at-preserved c = record {
       hashes_more n (take at samples) piece (take (at + count) samples) c.args.self.now _ new
       (take-add at count samples) c.loop-at.invariant.hashed hashed;
 }
+
+pub returns : goal.returns
+returns c = grind (arith, common_steps)

@@ -1,4 +1,5 @@
 use Rattle.std.proofs.Common.{◌≡◌, ◌+◌, ◌∙◌, ℕ, ap, length, arith, pos}
+use Rattle.std.proofs.lemmas.Grind.{common_steps}
 use Rattle.std.proofs.lemmas.List.FromFn.{fill_by_all}
 use Rattle.claxon_md5.specs.Planar.{interleaved_sample}
 use Rattle.claxon_md5.proofs.Planar.{map_along}
@@ -12,3 +13,6 @@ returns g c =
     let shifted = λ (k : ℕ). f (from + k) in
     fill_by_all shifted c.loop-i.buffer n (pos 0) c.loop-i.auto.buffer (λ k lt. c.loop-i.invariant k (omega arith))
     ∙ map_along shifted f 0 from n (λ k lt. let z : 0 + k ≡ k = omega arith in ap (λ (j : ℕ). f (from + j)) z)
+
+pub loop-i-preserved : goal.loop-i-preserved
+loop-i-preserved g c = grind (arith, common_steps)
