@@ -1,3 +1,4 @@
+use Rattle.std.proofs.lemmas.Grind.{common_steps}
 use Rattle.std.proofs.Common.{◌≡◌, ◌∙◌, ◌+◌, ◌*◌, ◌/◌, ◌<◌, [], length, get_or, ap, sym, take, drop, refl, arith}
 use Rattle.std.proofs.lemmas.List.{get_or-drop}
 use Rattle.claxon_input.specs.CrcUpdate.{update_crc16}
@@ -28,3 +29,6 @@ loop-piece-preserved c =
     update_crc-piece 16 0x18005 128 (words_crc (take 16 c.loop-piece.words)) (words_crc (take 16 c.take_in-in-loop-piece.new.words)) bs (128 * (k + 1)) (128 * (k + 1 + 1)) (omega arith)
     (c.take_in-in-loop-piece.ensures ∙ sym (update_crc-append 16 0x18005 now next 0) ∙ ap (update_crc16 (words_crc (take 16 c.loop-piece.words))) piece)
     ∙ c.loop-piece.invariant
+
+pub returns : goal.returns
+returns c = grind (arith, common_steps)

@@ -1,3 +1,5 @@
+use Rattle.std.proofs.Common.{arith}
+use Rattle.std.proofs.lemmas.Grind.{common_steps}
 use Rattle.claxon_input.proofs.Sources.{source_failure_with_value, meets_eof_with_value, on_err}
 use Rattle.claxon_input.proofs.running.RunningReaderReadBytes.read_u8_or_eof.Goals as goal
 
@@ -6,3 +8,6 @@ returns-in_err-found-clause-failure g c = on_err c.from_residual.result (source_
 
 pub returns-in_default-clause-eof_is_sound : goal.returns-in_default-clause-eof_is_sound
 returns-in_default-clause-eof_is_sound g c = rw c.in_default.is (meets_eof_with_value (g.S.Running.update c.args.self.now.state) (rw c.in_default.is at c.in_ok-found.ensures.eof_is_sound))
+
+pub returns-in-Some-clause-eof_is_sound : goal.returns-in-Some-clause-eof_is_sound
+returns-in-Some-clause-eof_is_sound g c = grind (arith, common_steps)
