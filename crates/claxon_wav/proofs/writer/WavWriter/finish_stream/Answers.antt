@@ -1,4 +1,5 @@
 use Rattle.std.proofs.Common.{◌≡◌, ◌==◌, Bool, false, true, cond, [], arith, eq-eqb, inl, refl, subst, sym}
+use Rattle.std.proofs.lemmas.Grind.{common_steps}
 use Rattle.std.specs.Io.KnownBytes.{Appends}
 use Rattle.std.proofs.KnownBytes.{Appends-nil}
 use Rattle.std.proofs.lemmas.Bool.Decides.{nat_tests}
@@ -26,3 +27,9 @@ returns-clause-tries_to_end g c =
           inl (old.output, subst (λ (b : Bool). Appends (inner_contents contents old.output) (inner_contents contents old.output) (cond b (pad old.written) [])) (sym test) (Appends-nil (inner_contents contents old.output)), none_failed old.output, subst flushed output c.flush-flushed.ensures.counts_flush)
           )
     ]
+
+pub returns-clause-same_header : goal.returns-clause-same_header
+returns-clause-same_header g c = grind (arith, common_steps)
+
+pub returns-clause-flushes : goal.returns-clause-flushes
+returns-clause-flushes g c = grind (arith, common_steps)
