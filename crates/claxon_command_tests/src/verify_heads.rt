@@ -1,7 +1,7 @@
 //! `claxon verify` of files whose heads are wrong: what is printed of their frames, but of standard input.
 use claxon_commands::verify::command;
 use claxon_testing::answers::{DEEP_FRAME, FRAME, PAIRS, SECOND, joined};
-use claxon_testing::command_lines::{Outcome, is_outcome, owned};
+use claxon_testing::command_lines::owned;
 use claxon_testing::temporary_files::file_of;
 use std::alloc::{AllocError, Global};
 use std::fs;
@@ -21,11 +21,11 @@ struct Row {
     members: &'static str,
 }
 
-// A head after its marker, which has a length in byte 3.
+// A head after its marker.
 const REST: &[u8] =
     b"\x80\0\0\x22\0\x10\0\x10\0\0\0\0\0\0\x0a\xc4\x40\x70\0\0\0\x02\0\0\0\0\0\0\0\0\0\0\0\0\0\0\0\0";
 
-// The same of a head that has another block.
+// The same, where another block follows.
 const REST_OF_TWO: &[u8] =
     b"\0\0\0\x22\0\x10\0\x10\0\0\0\0\0\0\x0a\xc4\x40\x70\0\0\0\x02\0\0\0\0\0\0\0\0\0\0\0\0\0\0\0\0";
 
@@ -104,13 +104,14 @@ const ROWS: [Row; 9] = [
     Row { bytes: &[b"fLaD", &DEEP_FRAME], reason: "not a FLAC file", counts: "", first: "", places: &[], members: "" },
 ];
 
-// The lines of a file of this name.
+// The lines of a file of this name, and of the numbers of files.
 fn lines_of(alloc: Global, name: &str, row: &Row) -> Result<String, AllocError> {
     let (reason, counts) = (row.reason, row.counts);
     let mut lines = format!(in alloc; "{name}: wrong, {reason}{counts}\n")?;
     for place in row.places {
         write!(&mut lines, "{name}: {place}\n")?;
     }
+    lines.push_str("1 file: 0 ok, 1 wrong, 0 not supported, 0 not read\n")?;
     Ok(lines)
 }
 
@@ -132,47 +133,42 @@ fn object_of(alloc: Global, name: &str, row: &Row) -> Result<String, AllocError>
 }
 
 // Whether a command line with this input prints just this, and has status 1.
-fn says(rt: &HostRuntime, words: &[&str], input: &[u8], want: &str) -> Result<bool, Fail> {
-    let words = owned(rt.alloc(), words)?;
+fn says(rt: &HostRuntime, words: &[&str], input: &[u8], want: Result<String, AllocError>) -> bool {
+    let (Ok(words), Ok(want)) = (owned(rt.alloc(), words), want) else {
+        return false;
+    };
     let (mut output, mut errors): (Vec<u8>, Vec<u8>) = (Vec::new(rt.alloc()), Vec::new(rt.alloc()));
     let status = command(rt, words.as_slice(), input, &mut output, false, &mut errors);
-    let outcome = Outcome {
-        status,
-        output,
-        errors,
-    };
-    Ok(is_outcome(&outcome, 1, want.as_bytes(), b""))
+    status == 1 && output.as_slice() == want.as_bytes() && errors.is_empty()
 }
 
-// Whether this is said of a file, whose frames nothing is said of in standard input.
-fn is_said(rt: &HostRuntime, row: &Row) -> Result<bool, Fail> {
+// Whether this is said of a file of this name, whose frames nothing is said of in standard input.
+fn is_said(rt: &HostRuntime, name: &str, bytes: &[u8], row: &Row) -> bool {
     let (alloc, reason) = (rt.alloc(), row.reason);
-    let bytes = joined(alloc, row.bytes)?;
+    let input = format!(in alloc; "standard input: wrong, {reason}\n");
+    says(
+        rt,
+        &["-q", "--summary", name],
+        b"",
+        lines_of(alloc, name, row),
+    ) && says(rt, &["--brief", name], b"", brief_line_of(alloc, name, row))
+        && says(rt, &["--json", name], b"", object_of(alloc, name, row))
+        && says(rt, &["-"], bytes, input)
+}
+
+// The same of a file that is made for it.
+fn is_said_of_file(rt: &HostRuntime, row: &Row) -> Result<bool, Fail> {
+    let bytes = joined(rt.alloc(), row.bytes)?;
     let path = file_of(rt, "verify_heads", bytes.as_slice())?;
-    let name = path.as_str();
-    let input = format!(in alloc; "standard input: wrong, {reason}\n")?;
-    let all = says(rt, &["-q", name], b"", lines_of(alloc, name, row)?.as_str())?
-        && says(
-            rt,
-            &["--brief", name],
-            b"",
-            brief_line_of(alloc, name, row)?.as_str(),
-        )?
-        && says(
-            rt,
-            &["--json", name],
-            b"",
-            object_of(alloc, name, row)?.as_str(),
-        )?
-        && says(rt, &["-"], bytes.as_slice(), input.as_str())?;
-    fs::remove_file(rt, name)?;
+    let all = is_said(rt, path.as_str(), bytes.as_slice(), row);
+    fs::remove_file(rt, path.as_str())?;
     Ok(all)
 }
 
 #[test]
 fn wrong_heads(rt: HostRuntime) -> Result<(), Fail> {
     for (index, row) in ROWS.iter().enumerate() {
-        assert!(rt; is_said(&rt, row)?, "{index}");
+        assert!(rt; is_said_of_file(&rt, row)?, "{index}");
     }
     Ok(())
 }
