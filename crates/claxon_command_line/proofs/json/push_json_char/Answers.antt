@@ -1,4 +1,5 @@
 use Rattle.std.proofs.Common.{◌≡◌, ◌<◌, ◌++◌, ℕ, false, arith}
+use Rattle.std.proofs.lemmas.Grind.{common_steps}
 use Rattle.std.specs.Prelude.{codes}
 use Rattle.std.proofs.lemmas.Fmt.{hex_byte as two_hex_digits}
 use Rattle.std.proofs.lemmas.Bool.Decides.{nat_tests}
@@ -21,3 +22,7 @@ returns-in-0-to-31 g c =
     ] in
     let small : x < 256 = omega arith in
     record { adds = rw (is, ← two_hex_digits false x small) (simp (c.laid_out.ensures, c.in_radix.ensures, c.from-number.ensures) at c.write.ensures.bytes) }
+
+pub returns-in-8 : goal.returns-in-8
+unfolding json_char
+returns-in-8 g c = grind (arith, common_steps)
