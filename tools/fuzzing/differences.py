@@ -44,9 +44,40 @@ def head_of(streaminfo: StreamInfo) -> Tuple[str, ...]:
 
 UNSUPPORTED = "A currently unsupported feature of the FLAC format was encountered: "
 
-# The faults that claxon may report where the slow decoder finds this one in a frame. Where the
-# input ends within a frame header, claxon may report a field before that.
+# The faults that claxon may report where the slow decoder finds this one. Where the input ends
+# within a frame header, claxon may report a field before that.
 TEXTS = {
+    "incomplete head": ("IO",),
+    "ID3": ("stream starts with ID3 header rather than FLAC header",),
+    "magic": ("invalid stream header",),
+    "number of metadata blocks": (
+        UNSUPPORTED + "more than 65536 metadata blocks are not supported",
+    ),
+    "type of a metadata block": ("invalid metadata block type",),
+    "no streaminfo block first": ("streaminfo block missing",),
+    "second streaminfo": ("encountered second streaminfo block",),
+    "second comments": ("encountered second Vorbis comment block",),
+    "length of the streaminfo": ("invalid streaminfo metadata block length",),
+    "bounds of block sizes": ("inconsistent bounds, min block size > max block size",),
+    "block size below 16": ("invalid block size, must be at least 16",),
+    "bounds of frame sizes": ("inconsistent bounds, min frame size > max frame size",),
+    "sample rate outside FLAC 1.3.1": ("invalid sample rate",),
+    "application block below 4 bytes": ("application block length must be at least 4 bytes",),
+    "application block above 10 MiB": (
+        UNSUPPORTED + "application blocks larger than 10 MiB are not supported",
+    ),
+    "comment block below 8 bytes": ("Vorbis comment block is too short",),
+    "comment block above 10 MiB": (
+        UNSUPPORTED + "Vorbis comment blocks larger than 10 MiB are not supported",
+    ),
+    "length of the vendor string": ("vendor string too long",),
+    "number of comments": ("too many entries for Vorbis comment block",),
+    "length of a comment": ("Vorbis comment too long for Vorbis comment block",),
+    "missing comments": ("Vorbis comment block contains wrong number of entries",),
+    "bytes after comments": ("Vorbis comment block has excess data",),
+    "no = in a comment": ("Vorbis comment does not contain '='",),
+    "byte of a field name": ("Vorbis comment field name contains invalid byte",),
+    "UTF-8 in comments": ("Vorbis comment or vendor string is not valid UTF-8",),
     "sync code": ("frame sync code missing",),
     "reserved value in the frame header": (
         "invalid frame header, encountered reserved value",
@@ -57,6 +88,7 @@ TEXTS = {
     "frame number above 31 bits": ("invalid frame header, frame number too large",),
     "block size 65536": ("invalid block size, exceeds 65535",),
     "frame header CRC": ("frame header CRC mismatch",),
+    "unknown bit depth": (UNSUPPORTED + "header without bits per sample info",),
     "side channel of 33 bits": (UNSUPPORTED + "side channels of 33 bits are not supported",),
     "padding bit of a subframe": ("invalid subframe header",),
     "reserved subframe type": ("invalid subframe header, encountered reserved value",),

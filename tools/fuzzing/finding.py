@@ -129,7 +129,8 @@ def place_at(data: bytes, at: int, streaminfo: Optional[StreamInfo]) -> Optional
 
 
 def places_of(data: bytes, streaminfo: Optional[StreamInfo]) -> List[Place]:
-    found = (place_at(data, at, streaminfo) for at in range(len(data)))
+    positions = (at for at in range(len(data)) if data[at] == 0xFF or at + 1 == len(data))
+    found = (place_at(data, at, streaminfo) for at in positions)
     return [place for place in found if place]
 
 

@@ -8,31 +8,21 @@ import functools
 import io
 import itertools
 import os
-import re
 import struct
 import subprocess
 import sys
 import tempfile
-from array import array
 from pathlib import Path
 from random import Random
-from typing import Any, Callable, Dict, Iterable, Iterator, List, NamedTuple, Optional, Tuple
+from typing import Callable, Iterable, Iterator, List, NamedTuple, Optional, Tuple
 
-from fuzzing import finding, mutation
-from fuzzing.mutation import Pick
+from fuzzing.engine import BUFFERS, Engine, Event, Events, Pieces, block_event, cuts_of, pieces_of
 from repository.crates import TOP
 
 sys.path.insert(0, str(TOP / "python"))
 import claxon  # noqa: E402
 from claxon import _calls, _errors  # noqa: E402
 from claxon._calls import NEED_MORE, NO_MORE, OK  # noqa: E402
-
-# A block: its time, channels, duration, sample rate and bit depth, and its samples, channel after
-# channel. A fault of the head or of a frame: its position, kind and text. The bytes that are
-# skipped after it, or None where no frame is left.
-Event = Tuple[Any, ...]
-Events = List[Event]
-Pieces = List[int]
 
 KINDS = {1: "FormatError", 2: "Unsupported", 3: "InputEnds", 4: "OutOfMemory"}
 UNLIMITED = (1 << 64) - 1
@@ -45,48 +35,7 @@ def fault_of(status: int, text: bytes) -> Tuple[str, str]:
     return kind, "" if kind == "InputEnds" else text.decode()
 
 
-def block_event(block: _calls.Block, samples: bytes) -> Event:
-    return ("block", *finding.fields_of(block), samples[: 4 * block.channels * block.duration])
-
-
-def pieces_of(rng: Random, length: int) -> Pieces:
-    """Lengths of pieces: of a byte, of any, or all at once."""
-    most = rng.choice((1, 2, 7, 100, 1460, length + 1))
-    pieces, left = [], length
-    while left > 0:
-        pieces.append(rng.randint(1, most))
-        left -= pieces[-1]
-    return pieces
-
-
-def cuts_of(data: bytes, pieces: Pieces) -> Iterator[bytes]:
-    at = 0
-    for piece in pieces:
-        yield data[at : at + piece]
-        at += piece
-    yield data[at:]
-
-
 # ---- the library for C
-
-
-class Buffers:
-    """What a call writes to."""
-
-    def __init__(self) -> None:
-        self.block, self.error = _calls.Block(), ctypes.create_string_buffer(128)
-        self.samples = array("i", bytes(4 * 8 * 65535))
-
-    def arguments(self) -> List[Any]:
-        address, count = self.samples.buffer_info()
-        return [address, count, self.block, self.error, len(self.error)]
-
-    def event(self) -> Event:
-        count = self.block.channels * self.block.duration
-        return block_event(self.block, self.samples[:count].tobytes())
-
-
-BUFFERS = Buffers()
 
 
 def opened(data: bytes) -> Tuple[Optional[_calls.Info], Events]:
@@ -119,24 +68,6 @@ def in_memory(data: bytes, info: _calls.Info) -> Events:
             return events
 
 
-class Held:
-    """Bytes that come in pieces."""
-
-    def __init__(self, data: bytes, pieces: Pieces) -> None:
-        self._data = data
-        self._cuts = [len(cut) for cut in cuts_of(data, pieces)]
-        self.end = 0
-
-    def arguments(self, position: int) -> List[Any]:
-        """The bytes from there on."""
-        start = min(position, self.end)
-        held = self._data[start : self.end]
-        return [held, len(held), start, self.end == len(self._data)]
-
-    def read(self) -> None:
-        self.end += self._cuts.pop(0) if self._cuts else 0
-
-
 class Times:
     """The times of blocks that are shown."""
 
@@ -157,42 +88,14 @@ def by_calls(data: bytes, pieces: Pieces, info: _calls.Info) -> Tuple[Events, Ev
     """What the calls for pieces say, the same with the times of the clock, and whether the search
     passed a header over."""
     events: Events = []
-    held, frames, search = Held(data, pieces), _calls.Frames(), _calls.Search()
-    times = Times(info)
-    shown: Dict[int, Event] = {}
-    library.claxon_frames_start(frames, info.first_frame)
-    library.claxon_search_start(search, info.first_frame)
-
-    def told() -> Events:
-        return [shown.get(at, event) for at, event in enumerate(events)]
-
-    found = ctypes.c_uint64()
-    while True:
-        begin, bytes_held = frames.position, held.arguments(frames.position)
-        status = library.claxon_frames_next_planar(
-            frames, *bytes_held, info, *BUFFERS.arguments()
-        )
-        if status == NEED_MORE:
-            held.read()
-        elif status == OK:
-            events.append(BUFFERS.event())
-            shown[len(events) - 1] = times.note(frames.last)
-        elif status == NO_MORE:
-            return events, told(), bool(search.has_passed_over)
-        else:
-            events.append(("fault", begin, *fault_of(status, BUFFERS.error.value)))
-            library.claxon_search_go_on(search, frames, begin + 1)
-            while status not in (OK, NO_MORE):
-                bytes_held = held.arguments(search.position)
-                status = library.claxon_search_next(
-                    search, *bytes_held, info, found, BUFFERS.block
-                )
-                if status == NEED_MORE:
-                    held.read()
-            events.append(("skipped", found.value - begin if status == OK else None))
-            if status != OK:
-                return events, told(), bool(search.has_passed_over)
-            library.claxon_frames_go_on(frames, found.value)
+    shown: Events = []
+    engine, times = Engine(data, pieces), Times(info)
+    for event in engine.walk(info.first_frame, info):
+        if event[0] == "fault":
+            event = (*event[:2], *fault_of(*event[2:]))
+        events.append(event)
+        shown.append(times.note(engine.frames.last) if event[0] == "block" else event)
+    return events, shown, bool(engine.search.has_passed_over)
 
 
 class Seeks:
@@ -540,19 +443,3 @@ def compare(rng: Random, data: bytes) -> Tuple[List[str], List[str]]:
     outcomes += [event[0] for event in (*expected, *sought)]
     outcomes += ["a header passed over"] * passes_over
     return kinds, outcomes
-
-
-def with_stray_byte(rng: Random, data: bytes) -> bytes:
-    """The stream with a byte before one of its sync codes, so that a fault shows within a frame."""
-    codes = [match.start() for match in re.finditer(rb"\xff[\xf8\xf9]", data)]
-    at = rng.choice(codes) if codes else len(data)
-    return data[:at] + rng.choice((b"\xff", b"\0")) + data[at:]
-
-
-def made(rng: Random, pick: Pick) -> bytes:
-    """A stream: as for all decoders, or as for searches."""
-    if rng.random() < 0.5:
-        data = finding.made(rng, pick)
-    else:
-        data = mutation.make(rng, pick)[: finding.MAX_SIZE]
-    return with_stray_byte(rng, data) if rng.random() < 0.3 else data

@@ -10,6 +10,10 @@ from typing import List, Optional, Sequence, Set, Tuple
 from streams import frames
 from streams.frames import FIXED_COEFFICIENTS, crc8, crc16
 
+# The most bytes of an application or a comment block, and the most metadata blocks.
+MAX_CONTENT = 10485760
+MAX_BLOCKS = 65536
+
 Channels = List[List[int]]
 # The positions and sizes of fields, in bits.
 Fields = List[Tuple[int, int]]
@@ -78,6 +82,8 @@ class StreamInfo:
     bits_per_sample: int
     samples: int
     md5: bytes
+    min_frame_size: int = 0
+    max_frame_size: int = 0
 
 
 @dataclasses.dataclass
@@ -378,8 +384,10 @@ def measure(data: bytes, header: FrameHeader) -> Tuple[int, Fields]:
 
 
 def read_frame(data: bytes, stream_bit_depth: int) -> Frame:
-    """The frame that the bytes begin with."""
+    """The frame that the bytes begin with, in a stream of this bit depth, or 0 if it is unknown."""
     header = read_header(data, stream_bit_depth)
+    if header.bit_depth == 0:
+        raise Fault("unknown bit depth")
     remarks: Set[str] = set()
     channels, reader = read_subframes(data[header.length:], header, remarks, False)
     if reader.read(-reader.at % 8):
@@ -408,13 +416,15 @@ def read_streaminfo(body: bytes) -> StreamInfo:
         (packed >> 36 & 31) + 1,
         packed & (1 << 36) - 1,
         body[18:],
+        int.from_bytes(body[4:7], "big"),
+        int.from_bytes(body[7:10], "big"),
     )
-    min_frame_size, max_frame_size = (
-        int.from_bytes(body[4:7], "big"), int.from_bytes(body[7:10], "big")
-    )
-    has_block_bounds = 16 <= streaminfo.min_block_size <= streaminfo.max_block_size
-    if not has_block_bounds or min_frame_size > max_frame_size > 0:
-        raise Fault("bounds of the streaminfo")
+    if streaminfo.min_block_size > streaminfo.max_block_size:
+        raise Fault("bounds of block sizes")
+    if streaminfo.min_block_size < 16:
+        raise Fault("block size below 16")
+    if streaminfo.min_frame_size > streaminfo.max_frame_size > 0:
+        raise Fault("bounds of frame sizes")
     if not 0 < streaminfo.sample_rate <= 655350:
         raise Fault("sample rate outside FLAC 1.3.1")
     return streaminfo
@@ -422,29 +432,59 @@ def read_streaminfo(body: bytes) -> StreamInfo:
 
 def check_comment(entry: bytes) -> None:
     name, equals, _ = entry.partition(b"=")
-    if entry and (not equals or not all(0x20 <= byte <= 0x7D for byte in name)):
-        raise Fault("comment entry")
-    entry.decode("utf-8")
+    if not equals:
+        raise Fault("no = in a comment")
+    if not all(0x20 <= byte <= 0x7D for byte in name):
+        raise Fault("byte of a field name")
+    check_utf8(entry)
 
 
-def check_comments(body: bytes) -> None:
-    """Raises a fault unless the vendor string and the entries fill the comment block."""
-    if len(body) < 8 or len(body) > 10485760:
-        raise Fault("length of comments")
-    at = 4 + int.from_bytes(body[:4], "little")
+def check_utf8(text: bytes) -> None:
+    try:
+        text.decode("utf-8")
+    except UnicodeDecodeError:
+        raise Fault("UTF-8 in comments")
+
+
+def read_text(body: bytes, at: int, most: int, what: str) -> Tuple[bytes, int]:
+    """The text after its length, and the position after it. The length is refused above `most`."""
+    start = at + 4
+    if start > len(body):
+        raise Incomplete("incomplete head")
+    end = start + int.from_bytes(body[at:start], "little")
+    if end - start > most:
+        raise Fault(f"length of {what}")
+    if end > len(body):
+        raise Incomplete("incomplete head")
+    return body[start:end], end
+
+
+def read_comments(body: bytes, length: int) -> int:
+    """The number of tags in a comment block of this length, of which so many bytes are there."""
+    if length < 8:
+        raise Fault("comment block below 8 bytes")
+    if length > MAX_CONTENT:
+        raise Fault("comment block above 10 MiB")
+    vendor, at = read_text(body, 0, length - 8, "the vendor string")
+    check_utf8(vendor)
+    if at + 4 > len(body):
+        raise Incomplete("incomplete head")
     count = int.from_bytes(body[at : at + 4], "little")
-    if at + 4 > len(body) or count >= len(body) // 4:
-        raise Fault("length in comments")
-    body[4:at].decode("utf-8")
-    at += 4
+    if count >= length // 4:
+        raise Fault("number of comments")
+    at, tags = at + 4, 0
     for _ in range(count):
-        end = at + 4 + int.from_bytes(body[at : at + 4], "little")
-        if end > len(body):
-            raise Fault("length in comments")
-        check_comment(body[at + 4 : end])
-        at = end
-    if at != len(body):
-        raise Fault("length in comments")
+        if at == length:
+            raise Fault("missing comments")
+        if at + 4 > length:
+            break
+        entry, at = read_text(body, at, length - at - 4, "a comment")
+        if entry:
+            check_comment(entry)
+            tags += 1
+    if at < length:
+        raise Fault("bytes after comments")
+    return tags
 
 
 def read_metadata_blocks(data: bytes) -> Tuple[Blocks, int]:
@@ -464,25 +504,73 @@ def read_metadata_blocks(data: bytes) -> Tuple[Blocks, int]:
     return blocks, at
 
 
+class HeadReader:
+    """Reads a head, one part after another. A fault is one of what begins at `begin`."""
+
+    def __init__(self, data: bytes) -> None:
+        self.data = data
+        self.begin = self.at = 0
+        self.block_type = self.length = self.tags = 0
+        self.is_last = False
+        self.streaminfo: Optional[StreamInfo] = None
+        self.blocks: Blocks = []
+
+    def read_marker(self) -> None:
+        if len(self.data) < 4:
+            raise Incomplete("incomplete head")
+        if self.data[:4] != b"fLaC":
+            raise Fault("ID3" if self.data[:3] == b"ID3" else "magic")
+        self.begin = self.at = 4
+
+    def read_header(self) -> None:
+        """The header of a metadata block, before its content."""
+        header = self.data[self.at : self.at + 4]
+        if len(self.blocks) == MAX_BLOCKS:
+            raise Fault("number of metadata blocks")
+        if len(header) < 4:
+            raise Incomplete("incomplete head")
+        self.is_last, self.block_type = header[0] >= 128, header[0] & 127
+        self.length = int.from_bytes(header[1:], "big")
+        self.at += 4
+
+    def read_content(self) -> None:
+        body = self.data[self.at : self.at + self.length]
+        self._check_length()
+        if self.block_type == 4:
+            self.tags = read_comments(body, self.length)
+        if len(body) < self.length:
+            raise Incomplete("incomplete head")
+        streaminfo = read_streaminfo(body) if self.block_type == 0 else self.streaminfo
+        types = [block_type for block_type, _ in self.blocks]
+        if streaminfo is None:
+            raise Fault("no streaminfo block first")
+        if self.block_type in (0, 4) and self.block_type in types:
+            raise Fault("second comments" if self.block_type else "second streaminfo")
+        self.streaminfo = streaminfo
+        self.blocks.append((self.block_type, body))
+        self.begin = self.at = self.at + self.length
+
+    def _check_length(self) -> None:
+        """Refuses a block for what its header says."""
+        if self.block_type == 127:
+            raise Fault("type of a metadata block")
+        if self.block_type == 0 and self.length != 34:
+            raise Fault("length of the streaminfo")
+        if self.block_type == 2 and self.length < 4:
+            raise Fault("application block below 4 bytes")
+        if self.block_type == 2 and self.length > MAX_CONTENT:
+            raise Fault("application block above 10 MiB")
+
+
 def read_head(data: bytes) -> Tuple[StreamInfo, Blocks, int]:
     """The streaminfo, the metadata blocks, and the position of the first frame."""
-    blocks, end = read_metadata_blocks(data)
-    if blocks[0][0] != 0:
-        raise Fault("no streaminfo block first")
-    streaminfo = read_streaminfo(blocks[0][1])
-    block_types = [block_type for block_type, _ in blocks]
-    is_repeated = block_types.count(0) > 1 or block_types.count(4) > 1
-    if is_repeated or 127 in block_types or len(block_types) > 65536:
-        raise Fault("types or count of metadata blocks")
-    for block_type, body in blocks:
-        if block_type == 2 and not 4 <= len(body) <= 10485760:
-            raise Fault("length of an application block")
-        if block_type == 4:
-            try:
-                check_comments(body)
-            except UnicodeDecodeError:
-                raise Fault("UTF-8 in comments")
-    return streaminfo, blocks, end
+    head = HeadReader(data)
+    head.read_marker()
+    while not head.is_last:
+        head.read_header()
+        head.read_content()
+    assert head.streaminfo is not None
+    return head.streaminfo, head.blocks, head.at
 
 
 def has_invalid_seek_table(blocks: Blocks) -> bool:
