@@ -110,7 +110,8 @@ class Kinds(unittest.TestCase):
             (r"^no frame, but samples$|^cut ", "cut off before the end"),
             (r"^(an empty file|41 bytes)$", "cut off before the end"),
             (r"^an (ID3v1|APE) tag after$|^a tag, unknown", "only a tag after the last frame"),
-            (r"flipped|^bytes between|^a byte is|damage|^a negative shift", "frames can't be decoded"),
+            (r"flipped|^bytes between|^a byte is|damage", "frames can't be decoded"),
+            (r"^a negative shift", "frames can't be decoded"),
             (r"after", "only other bytes after the last frame"),
         )
         for row in ROWS.values():
