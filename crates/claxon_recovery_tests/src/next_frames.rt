@@ -21,7 +21,7 @@ type Wanted = Option<(u64, u64, u32, u32)>;
 
 // Pieces of a stream, and its first frame that says its whole format.
 #[rattlefmt::skip]
-const ROWS: [(&[&[u8]], Wanted); 9] = [
+const ROWS: [(&[&[u8]], Wanted); 8] = [
     (&[], None),
     (&[FIRST, SECOND], Some((0, 11, 1, 44_100))),
     (&[b"fLaX", &[0; 16], SECOND, FIRST], Some((20, 31, 1, 44_100))),
@@ -30,7 +30,6 @@ const ROWS: [(&[&[u8]], Wanted); 9] = [
     (&[OF_ANY_DEPTH, SECOND], Some((11, 22, 1, 44_100))),
     (&[OF_ANY_RATE], Some((0, 11, 1, 0))),
     (&[CUT], None),
-    (&[&[0xff; 700_000], FIRST], Some((700_000, 700_011, 1, 44_100))),
 ];
 
 // The streaminfo of such a frame.
@@ -70,5 +69,16 @@ fn first_frames(rt: HostRuntime) -> Result<(), Fail> {
             "{number}"
         );
     }
+    Ok(())
+}
+
+// More bytes than are kept are no frame.
+#[test]
+fn after_long_damage(rt: HostRuntime) -> Result<(), Fail> {
+    let mut bytes = Vec::new(rt.alloc());
+    bytes.resize(700_000, 0xff)?;
+    bytes.extend_from_slice(FIRST)?;
+    let wanted = Some((700_000, 700_011, 1, 44_100));
+    assert!(rt; is_first(rt.alloc(), bytes.as_slice(), wanted)?);
     Ok(())
 }
