@@ -7,7 +7,7 @@ from random import Random
 from typing import Dict, Iterator, List, NamedTuple, Optional, Tuple, Union
 
 from fuzzing import differences, finding, slow_decoder
-from fuzzing.differences import UNSUPPORTED
+from fuzzing.differences import TEXTS, UNSUPPORTED
 from fuzzing.engine import BUFFERS, Engine, Event, Wrong, pieces_of
 from fuzzing.finding import Place
 from fuzzing.slow_decoder import Fault, Frame, HeadReader, StreamInfo
@@ -17,16 +17,6 @@ sys.path.insert(0, str(TOP / "python"))
 from claxon import _calls  # noqa: E402
 
 UNLIMITED = finding.UNLIMITED
-# A frame header that is cut may have had a fault before its end.
-TEXTS: Dict[str, Tuple[str, ...]] = {
-    **differences.TEXTS,
-    "incomplete coded number": ("IO",),
-    "incomplete frame header": (
-        "IO",
-        *differences.TEXTS["frame number above 31 bits"],
-        *differences.TEXTS["block size 65536"],
-    ),
-}
 # The fields of answers, for the names of differences.
 NAMES: Dict[str, Tuple[str, ...]] = {
     "marker": ("next", "position"),
@@ -44,24 +34,19 @@ NAMES: Dict[str, Tuple[str, ...]] = {
 
 
 class Wanted(NamedTuple):
-    """The answers of which one is right."""
+    """An answer, which is given when so many bytes of the stream are there."""
 
-    events: Tuple[Event, ...]
-    end: int = UNLIMITED  # it is given when so many bytes of the stream are there
-    fault: str = ""  # what the slow decoder calls it
+    event: Event
+    end: int = UNLIMITED
 
 
 def fault_wanted(at: int, fault: Fault, *after: bool) -> Wanted:
-    """That one of the texts is given."""
-    events: List[Event] = []
-    for text in TEXTS[str(fault)]:
-        status = _calls.FORMAT_ERROR
-        if text == "IO":
-            status, text = _calls.INPUT_ENDS, "the bytes end"
-        elif text.startswith(UNSUPPORTED):
-            status, text = _calls.UNSUPPORTED, text[len(UNSUPPORTED) :]
-        events.append(("fault", at, status, text.encode(), *after))
-    return Wanted(tuple(events), fault=str(fault))
+    status, text = _calls.FORMAT_ERROR, TEXTS[str(fault)]
+    if text == "IO":
+        status, text = _calls.INPUT_ENDS, "the bytes end"
+    elif text.startswith(UNSUPPORTED):
+        status, text = _calls.UNSUPPORTED, text[len(UNSUPPORTED) :]
+    return Wanted(("fault", at, status, text.encode(), *after))
 
 
 class Model:
@@ -82,22 +67,22 @@ class Model:
             yield from self._walk(head.begin, True)
         else:
             self.streaminfo = head.streaminfo
-            yield Wanted((("head", head.at, head.at),), head.at)
+            yield Wanted(("head", head.at, head.at), head.at)
             yield from self._walk(head.at, False)
 
     def _head(self, head: HeadReader) -> Iterator[Wanted]:
         head.read_marker()
-        yield Wanted((("marker", head.at, head.at),), head.at)
+        yield Wanted(("marker", head.at, head.at), head.at)
         while not head.is_last:
             head.read_header()
             has_all = head.block_type in (0, 2, 4, 127)
             position = head.at + (0 if has_all else max(0, head.length - 1))
             said = head.at, head.length, head.block_type, head.is_last
-            yield Wanted((("header", head.begin, position, *said),), head.at)
+            yield Wanted(("header", head.begin, position, *said), head.at)
             head.read_content()
             assert head.streaminfo is not None
-            streaminfo = told(head.streaminfo)
-            yield Wanted((("content", head.begin, head.at, streaminfo, head.tags),), head.at)
+            event = "content", head.begin, head.at, told(head.streaminfo), head.tags
+            yield Wanted(event, head.at)
 
     def _walk(self, at: int, is_lost: bool) -> Iterator[Wanted]:
         """The blocks and the faults from a position on."""
@@ -107,15 +92,15 @@ class Model:
                 if found is None:
                     # Where a head is cut after a whole block, the search begins beyond the end.
                     end = max(len(self.data), at + 1)
-                    yield Wanted((("skipped", None, end, finding.UNTOUCHED),))
+                    yield Wanted(("skipped", None, end, finding.UNTOUCHED))
                     return
                 frame = self._frame(found)
                 assert isinstance(frame, Frame)
                 end, block = found + frame.length, self._block(found, frame)
-                yield Wanted((("skipped", found - at, end, block),))
+                yield Wanted(("skipped", found - at, end, block))
                 at = found
             if len(self.data) - at < 2:
-                yield Wanted((("end", len(self.data)),))
+                yield Wanted(("end", len(self.data)))
                 return
             frame = self._frame(at)
             is_lost = isinstance(frame, Fault)
@@ -125,7 +110,7 @@ class Model:
             end, header = at + frame.length, frame.header
             numbers = header.coded_number, header.block_size, header.is_variable
             event = ("block", *self._block(at, frame), self._samples(frame), at, end, *numbers)
-            yield Wanted((event,), end)
+            yield Wanted(event, end)
             at = end
 
     def _frame(self, at: int) -> Union[Frame, Fault]:
@@ -193,22 +178,20 @@ def answers_of(engine: Engine, length: int) -> Iterator[Event]:
         yield "end", frames.position
 
 
+def named(event: Event) -> str:
+    return f"fault, {event[3].decode()}" if event[0] == "fault" else str(event[0])
+
+
 def difference(wanted: Wanted, found: Event, too_few: int) -> Optional[str]:
     """How an answer differs, or None."""
-    if found in wanted.events:
-        return f"a late {found[0]}" if too_few >= wanted.end else None
-    expected = wanted.events[0]
-    called = f", slow decoder: {wanted.fault}" if wanted.fault else ""
+    expected = wanted.event
+    if found == expected:
+        return f"{found[0]}: late" if too_few >= wanted.end else None
     if found[0] != expected[0]:
-        text = f" {found[3].decode()}" if found[0] == "fault" else ""
-        return f"{found[0]}{text} for {expected[0]}{called}"
-    names = NAMES[found[0]]
-    others = [
-        names[index]
-        for index, field in enumerate(found[1:])
-        if field not in [event[index + 1] for event in wanted.events]
-    ]
-    return f"{found[0]}: another {', another '.join(others)}{called}"
+        return f"{named(found)}: expected {named(expected)}"
+    fields = zip(NAMES[found[0]], found[1:], expected[1:])
+    others = ", another ".join(name for name, field, right in fields if field != right)
+    return f"{named(found)}: another {others}, expected {named(expected)}"
 
 
 def compare(rng: Random, data: bytes) -> Tuple[List[str], List[str]]:

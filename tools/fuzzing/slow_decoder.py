@@ -183,8 +183,10 @@ def codes_of(data: bytes) -> Tuple[int, int, int, int]:
         codes += divmod(data[index], 16)
         if index == 1 and (data[0] != 0xFF or data[1] >> 2 != 0x3E):
             raise Fault("sync code")
-        if index == 1 and data[1] & 2 or index == 2 and (codes[4] == 0 or codes[5] == 15):
+        if index == 1 and data[1] & 2 or index == 2 and codes[4] == 0:
             raise Fault("reserved value in the frame header")
+        if index == 2 and codes[5] == 15:
+            raise Fault("sample rate code 15")
     if codes[6] > 10 or codes[7] in (6, 7) or codes[7] & 1:
         raise Fault("reserved value in the frame header")
     return codes[4], codes[5], codes[6], codes[7] >> 1
@@ -218,15 +220,23 @@ def header_of(data: bytes, stream_bit_depth: int) -> FrameHeader:
     )
 
 
+def check_numbers(data: bytes, block_size_code: int) -> None:
+    """Refuses the coded number or the block size of a frame header, which may be cut after them."""
+    number, at = read_coded_number(data, 4)
+    if not data[1] & 1 and number > 0x7FFFFFFF:
+        raise Fault("frame number above 31 bits")
+    if block_size_code == 7 and data[at : at + 2] == b"\xff\xff":
+        raise Fault("block size 65536")
+
+
 def read_header(data: bytes, stream_bit_depth: int) -> FrameHeader:
     """The frame header that the bytes begin with, if claxon has to read it."""
-    if codes_of(data)[3] == 7:
+    codes = codes_of(data)
+    if codes[3] == 7:
         raise Fault("bit depth code of 32 bits")
+    if len(data) > 4:
+        check_numbers(data, codes[0])
     header = header_of(data, stream_bit_depth)
-    if not header.is_variable and header.coded_number > 0x7FFFFFFF:
-        raise Fault("frame number above 31 bits")
-    if header.block_size > 65535:
-        raise Fault("block size 65536")
     if crc8(data[: header.length - 1]) != data[header.length - 1]:
         raise Fault("frame header CRC")
     return header
@@ -257,8 +267,10 @@ def read_residual(
     if method > 1:
         raise Fault("residual coding method")
     partition_count = 1 << reader.read_field(4)
-    if block_size % partition_count or predictor_order > block_size // partition_count:
+    if block_size % partition_count:
         raise Fault("partition order")
+    if predictor_order > block_size // partition_count:
+        raise Fault("partition below the predictor order")
     if predictor_order == block_size // partition_count:
         remarks.add("empty partition")
     residual = []
@@ -312,7 +324,7 @@ def read_predicted(
 ) -> List[int]:
     predictor_order = subframe_type - 31 if subframe_type > 31 else subframe_type - 8
     if predictor_order > block_size:
-        raise Fault("predictor order above the block size")
+        raise Fault(f"order of a {'linear' if subframe_type > 31 else 'fixed'} predictor")
     if subframe_type > 31:
         warm_up, coefficients, shift = read_linear_predictor(
             reader, bit_depth, block_size, predictor_order
@@ -334,8 +346,10 @@ def read_subframe(
     if 2 <= subframe_type <= 7 or 13 <= subframe_type <= 31:
         raise Fault("reserved subframe type")
     wasted_bits = reader.read_unary() + 1 if reader.read_field(1) else 0
-    if wasted_bits >= bit_depth or wasted_bits > 31:
-        raise Fault("wasted bits")
+    if wasted_bits > 31:
+        raise Fault("wasted bits above 31")
+    if wasted_bits >= bit_depth:
+        raise Fault("wasted bits alone")
     bit_depth -= wasted_bits
     if subframe_type == 0:
         samples = [reader.read_signed(bit_depth)] * block_size
