@@ -363,8 +363,9 @@ def difference_of_frames(data: bytes, found: Dict[str, Any]) -> Optional[str]:
     """The same of a file whose head is wrong: its frames are told where one of them says its bit
     depth."""
     known = format_of(data)
-    if known is None or "frames" not in found:
-        return None if known is None and "frames" not in found else "verify: frames without a head"
+    is_told = known is not None and has_small_frames(known)
+    if known is None or not is_told or "frames" not in found:
+        return None if is_told == ("frames" in found) else "verify: frames without a head"
     keys = "frames", "samples", "sample_rate", "channels", "bits_per_sample", "md5"
     wanted = places_of(data, 0, known)
     numbers = known.sample_rate, known.channels, known.bits_per_sample

@@ -513,7 +513,8 @@ where
     )
 }
 
-// Verifies the frames of a file whose head is wrong, by the format of the first one that says it; None if there is none.
+// Verifies the frames of a file whose head is wrong, by the format of the first one that says it; None if there is none, or they
+// may be large.
 fn verify_without_head<Q: Files + AllocGlobal, I: Read + Copy, E: Write>(
     rt: &Q,
     options: Options,
@@ -527,6 +528,9 @@ where
     let Some(info) = find_format(rt.alloc(), open(rt, name, input)?)? else {
         return Ok(None);
     };
+    if !has_small_frames(&info) {
+        return Ok(None);
+    }
     let mut source = open(rt, name, input)?;
     let report = verify_frames(rt.alloc(), &mut source, info, options.more_places, progress)?;
     if report.found.frames == 0 {
