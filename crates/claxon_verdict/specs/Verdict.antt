@@ -59,8 +59,8 @@ use Rattle.claxon_command_line.specs.declared.messages.Part.TheVariants.{Frame, 
 use Rattle.claxon.specs.MetadataBlock.{or_zero}
 use Rattle.claxon_verify.specs.Verify.{NothingIsWrong}
 use Rattle.claxon_verify.specs.declared.report.BlockSizes.{BlockSizes}
-use Rattle.claxon_verify.specs.declared.report.Damage.{Damage}
-use Rattle.claxon_verify.specs.declared.report.Damage.TheVariants.{
+use Rattle.claxon_places.specs.declared.place.Damage.{Damage}
+use Rattle.claxon_places.specs.declared.place.Damage.TheVariants.{
   Beyond,
   BitDepth,
   BlockingStrategy,
@@ -72,8 +72,8 @@ use Rattle.claxon_verify.specs.declared.report.Damage.TheVariants.{
   SampleRate,
   WideSample,
 }
-use Rattle.claxon_verify.specs.declared.report.Place.{Place}
-use Rattle.claxon_verify.specs.declared.report.Gap.{Gap}
+use Rattle.claxon_places.specs.declared.place.Place.{Place}
+use Rattle.claxon_places.specs.declared.place.Gap.{Gap}
 use Rattle.claxon_verify.specs.declared.report.Report.{Report}
 use Rattle.claxon_heads.specs.declared.head.UnsupportedBlock.{UnsupportedBlock}
 use Rattle.claxon_heads.specs.declared.head.UnsupportedBlock.TheVariants.{

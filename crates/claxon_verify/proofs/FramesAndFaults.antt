@@ -17,16 +17,16 @@ use Rattle.claxon_blocks.specs.Frames.{Is32BitFault, Says32Bits}
 use Rattle.claxon.specs.BlockInfos.{BlockInfo}
 use Rattle.claxon.specs.Error.{IsIo}
 use Rattle.claxon.specs.Errors.TheVariants.{OutOfMemory}
-use Rattle.claxon_verify.specs.Places.{FoundPart, begun_scan, scan_parts}
+use Rattle.claxon_places.specs.Places.{FoundPart, begun_scan, scan_parts, unnamed}
 use Rattle.claxon_verify.specs.RightStream.{DecodedFrames, frame_duration}
-use Rattle.claxon_verify.specs.Verify.{AreTooMany, CanBeCounted, Counted, Counts, EndsAt, FrameIs, FrameOrFault, FrameOrFaultBytes, FramesAndFaults, LastFound, PartIs, PartsFound, all_places, fault_count_of, frame_count_of, frames_of, sample_count_of, unnamed}
+use Rattle.claxon_verify.specs.Verify.{AreTooMany, CanBeCounted, Counted, Counts, EndsAt, FrameIs, FrameOrFault, FrameOrFaultBytes, FramesAndFaults, LastFound, PartIs, PartsFound, all_places, fault_count_of, frame_count_of, frames_of, sample_count_of}
 use Rattle.claxon_blocks.specs.Frames.{IsNotWhole}
 use Rattle.claxon_blocks.specs.declared.frames.FrameError.{FrameError}
-use Rattle.claxon_verify.specs.declared.due.FoundFrame.{FoundFrame}
+use Rattle.claxon_places.specs.declared.due.FoundFrame.{FoundFrame}
 use Rattle.claxon_blocks.proofs.BlockReads.{io_not_fault}
 use Rattle.claxon_blocks.proofs.FirstBytes.{refused}
 use Rattle.claxon.proofs.DecodedFrames.{decoded_unambiguous}
-use Rattle.claxon_verify.proofs.Scanning.{SameParts, fault_begun, places_same, unnamed_what}
+use Rattle.claxon_places.proofs.Scanning.{SameParts, fault_begun, places_same, unnamed_what}
 
 -- one frame or fault more
 pub parts_push : (stream : Option StreamFormat) (parts : List FrameOrFault) (part : FrameOrFault) (s m t r : List ℕ) → FramesAndFaults stream s parts m → FrameOrFaultBytes stream part t → m ≡ t ++ r → FramesAndFaults stream s (parts ++ part ∷ []) r
@@ -48,6 +48,47 @@ same_answer false true p q = absurd (false≢true (p.1 (q.0 refl)))
 -- where no frame is cut off fewer than two bytes are left
 pub not_cut : (failed : Type 0) (stream : Option StreamFormat) (is_cut : Bool) (rest : List ℕ) → is_cut ≡ false → EndsAt failed stream is_cut rest → length rest < 2
 not_cut failed stream is_cut rest e h = subst (λ (b : Bool). EndsAt failed stream b rest) e h
+
+-- ---- what is found of them, one after another
+
+-- one part more
+pub found_push : (stream : Option StreamFormat) (info : Streaminfo) (parts : List FrameOrFault) (start : ℕ) (s m : List ℕ) (found : List FoundPart) → PartsFound stream info start s parts m found → (part : FrameOrFault) (t n : List ℕ) (here : FoundPart) (at : ℕ) → FrameOrFaultBytes stream part t → m ≡ t ++ n → start + length s ≡ at + length m
+    → here.start ≡ at % 2 ^ 64 → PartIs info part m here.what → PartsFound stream info start s (parts ++ part ∷ []) n (found ++ here ∷ [])
+found_push stream info [] start s m found h part t n here at bytes joined same begins is =
+    let l : length s ≡ length m = ap length h.0 in
+    let e : at ≡ start = omega (arith, same, l) in (
+      t,
+      n,
+      here,
+      [],
+      bytes,
+      h.0 ∙ joined,
+      begins ∙ ap (λ (k : ℕ). k % 2 ^ 64) e,
+      subst (λ (z : List ℕ). PartIs info part z here.what) (sym h.0) is,
+      (refl, refl),
+      ap (λ (z : List FoundPart). z ++ here ∷ []) h.1,
+    )
+found_push stream info (p ∷ parts) start s m found h part t n here at bytes joined same begins is =
+    let l : length s ≡ length h.0 + length h.1 = ap length h.5 ∙ length-append h.0 h.1 in (
+      h.0,
+      h.1,
+      h.2,
+      h.3 ++ here ∷ [],
+      h.4,
+      h.5,
+      h.6,
+      h.7,
+      found_push stream info parts (start + length h.0) h.1 m h.3 h.8 part t n here at bytes joined (omega (arith, same, l)) begins is,
+      ap (λ (z : List FoundPart). z ++ here ∷ []) h.9,
+    )
+
+-- the same from an equal byte
+pub found_from : (stream : Option StreamFormat) (info : Streaminfo) (p q : ℕ) (s : List ℕ) (parts : List FrameOrFault) (r : List ℕ) (found : List FoundPart) → q % 2 ^ 64 ≡ p % 2 ^ 64 → PartsFound stream info q s parts r found → PartsFound stream info p s parts r found
+found_from stream info p q s [] r found at h = h
+found_from stream info p q s (part ∷ parts) r found at h = (h.0, h.1, h.2, h.3, h.4, h.5, h.6 ∙ at, h.7, found_from stream info (p + length h.0) (q + length h.0) h.1 parts r h.3 (next p q (length h.0) at) h.8, h.9)
+  where
+    next : (p q n : ℕ) → q % 2 ^ 64 ≡ p % 2 ^ 64 → (q + n) % 2 ^ 64 ≡ (p + n) % 2 ^ 64
+    next p q n at = omega arith
 
 -- ---- frames alone
 

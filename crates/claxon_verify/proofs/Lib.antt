@@ -2,12 +2,8 @@
 pub mod FramesAndFaults
 -- The block sizes of a stream.
 pub mod BlockSizes
--- The parts that are found, one after another, and their places.
-pub mod Scanning
 -- A stream has no place exactly where its frames are in order, and no more than they should be.
 pub mod RightPlaces
--- Places that are kept, one after another.
-pub mod Keeping
 -- What is noted of frames and faults, one after another.
 pub mod Noting
 -- Frames and faults that are found, one after another.

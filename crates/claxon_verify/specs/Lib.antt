@@ -1,8 +1,6 @@
 pub mod FramesAlone
-pub mod Kept
 pub mod Notes
 pub mod PartFaults
-pub mod Places
 pub mod RightStream
 pub mod Trailing
 pub mod VerifiedParts

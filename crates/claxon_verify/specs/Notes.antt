@@ -40,7 +40,7 @@ use Rattle.claxon.specs.Gives.{ReadFailedIn}
 use Rattle.claxon.specs.State.{State, RemainingIsKnown}
 use Rattle.claxon.specs.Streaminfo.{Streaminfo}
 use Rattle.claxon.specs.Streams.{duration_of, stream_of}
-use Rattle.claxon_verify.specs.Places.{FoundPart, begun_scan, scan_parts}
+use Rattle.claxon_places.specs.Places.{FoundPart, begun_scan, scan_parts}
 use Rattle.claxon_verify.specs.RightStream.{frame_duration}
 use Rattle.claxon_heads.specs.StreamHead.{FoundHead, FoundHeadCode}
 use Rattle.claxon_verify.specs.Verify.{

@@ -23,8 +23,8 @@ use Rattle.claxon_verify.specs.RightStream.{
   bytes_of_frames,
   frame_duration,
 }
-use Rattle.claxon_verify.specs.Kept.{AreKept}
-use Rattle.claxon_verify.specs.Places.{FoundPart, list_of, places_of}
+use Rattle.claxon_places.specs.Kept.{AreKept}
+use Rattle.claxon_places.specs.Places.{FoundPart, list_of, places_of, unnamed}
 use Rattle.claxon_heads.specs.StreamHead.{
   FoundHead,
   FoundHeadCode,
@@ -32,17 +32,15 @@ use Rattle.claxon_heads.specs.StreamHead.{
   HeadNeedsMemory,
 }
 use Rattle.claxon_blocks.specs.declared.frames.FrameError.{FrameError}
-use Rattle.claxon_verify.specs.declared.due.FoundFrame.{FoundFrame}
+use Rattle.claxon_places.specs.declared.due.FoundFrame.{FoundFrame}
 use Rattle.claxon_command_line.specs.declared.progress.Progress.{Progress}
 use Rattle.claxon_verify.specs.declared.report.BlockSizes.{BlockSizes}
-use Rattle.claxon_verify.specs.declared.report.Damage.{Damage}
-use Rattle.claxon_verify.specs.declared.report.Damage.TheVariants.{Fault as FaultDamage}
 use Rattle.claxon_verify.specs.declared.report.Found.{Found}
 use Rattle.claxon_md5.specs.Md5.{md5}
 use Rattle.claxon_blocks.specs.declared.md5_verdict.Md5Verdict.{Md5Verdict}
 use Rattle.claxon_blocks.specs.declared.md5_verdict.Md5Verdict.TheVariants.{NotComputed, Wrong}
-use Rattle.claxon_verify.specs.declared.report.Place.{Place}
-use Rattle.claxon_verify.specs.declared.report.Places.{Places}
+use Rattle.claxon_places.specs.declared.place.Place.{Place}
+use Rattle.claxon_places.specs.declared.place.Places.{Places}
 use Rattle.claxon_verify.specs.declared.report.Report.{Report}
 use Rattle.claxon_heads.specs.declared.head.UnsupportedBlock.{UnsupportedBlock}
 
@@ -311,25 +309,6 @@ StopsCounting stream old e =
     (λ parts left. AreTooMany parts)))
 
 -- ---- the contract of the call
-
--- what is wrong, but for the error that names it
-abbrev pub unnamed_damage : Damage → Damage
-unnamed_damage (FaultDamage e) = FaultDamage (record {
-  error = OutOfMemory;
-  is_32_bit = e.is_32_bit;
-  first = record { seen = 0; bytes = []; others = 0 };
-})
-unnamed_damage damage = damage
-
--- a place, but for its end and the error that names what is wrong
-abbrev pub unnamed : Place → Place
-unnamed place = record {
-  start_byte = place.start_byte;
-  end_byte = 0;
-  start_sample = place.start_sample;
-  end_sample = place.end_sample;
-  damage = unnamed_damage place.damage;
-}
 
 -- Both are of the same places, of which each may keep others.
 pub record SamePlaces (a b : Counts) : Type 0 where

@@ -7,9 +7,9 @@ ghost use Rattle.claxon.specs.FrameReader.{stream_with};
 ghost use Rattle.claxon.specs.MetadataBlock.{info_view, or_zero};
 ghost use Rattle.claxon.specs.State.{bytes_in};
 ghost use Rattle.claxon_command_line.specs.Progress.{StaysQuiet};
-ghost use Rattle.claxon_verify.specs.Kept.{AreKept, Keeps};
+ghost use Rattle.claxon_places.specs.Kept.{AreKept, Keeps};
 ghost use Rattle.claxon_verify.specs.Notes.{NotesAreExact, WalkIsNoted};
-ghost use Rattle.claxon_verify.specs.Places.{places_at};
+ghost use Rattle.claxon_places.specs.Places.{places_at};
 ghost use Rattle.claxon_verify.specs.Trailing.{TrailingIsTold, TrailingOf, WalksToTail};
 ghost use Rattle.claxon_heads.specs.BytesRead.{counted_bytes, position_of};
 ghost use Rattle.claxon_verify.specs.Verify.{
@@ -29,7 +29,7 @@ ghost use Rattle.claxon_verify.specs.Verify.{
 };
 ghost use Rattle.claxon_blocks.specs.Md5Verdict.{Md5IsJudged, Md5IsShown};
 ghost use Rattle.claxon_verify.specs.Walk.{WalksToEnd};
-ghost use Rattle.claxon_verify.specs.declared.report.Place.{Place};
+ghost use Rattle.claxon_places.specs.declared.place.Place.{Place};
 
 use crate::report::{Found, Notes, Report, UnsupportedBlock};
 use claxon::input::ReadBytes;
@@ -45,12 +45,9 @@ use std::alloc::Allocator;
 use std::io::Write;
 use walk::{ByteRange, Walk, at_end, too_many, trailing, with_fault, with_frame};
 
-mod due;
 mod frames;
 mod parts;
-mod places;
 pub mod report;
-mod scan;
 mod sizes;
 pub mod trailing;
 mod walk;

@@ -32,10 +32,8 @@ ghost use Rattle.claxon_verify.specs.Verify.{
   VerifyIsQuiet,
 };
 
-use crate::due::FoundFrame;
 use crate::report::{Notes, Report};
 use crate::report_of;
-use crate::scan::{Scan, Scanned};
 use crate::trailing::BytesAfter;
 use crate::walk::{ByteRange, Walk, too_many, with_frame};
 use claxon::input::ReadBytes;
@@ -45,6 +43,7 @@ use claxon::{Error, Result};
 use claxon_blocks::frames::{FirstBytes, FrameError, is_32_bit_fault};
 use claxon_command_line::progress::Progress;
 use claxon_heads::{BytesRead, read_head};
+use claxon_places::{FoundFrame, Scan, Scanned};
 use claxon_recovery::{Cause, Damage, Part, Parts};
 use std::alloc::Global;
 use std::io::{self, ErrorKind, Write};

@@ -3,12 +3,12 @@ use crate::reports::report_of;
 use claxon::frame::FrameReader;
 use claxon::input::BufferedReader;
 use claxon_commands::verify::command;
+use claxon_places::Damage;
 use claxon_testing::answers::{
     FIVES, FRAME, Fault, Run, Step, answers_each, end_of, fault_of, frames_in_order, joined,
     run_of, two_frames,
 };
 use claxon_testing::command_lines::owned;
-use claxon_verify::report::Damage;
 use claxon_write::run;
 use std::alloc::Global;
 use std::io::{self, ErrorKind, Read};
