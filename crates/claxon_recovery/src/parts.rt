@@ -118,6 +118,7 @@ impl<R: ReadBytes> Parts<R> {
       parts_memory,
       parts_pending,
       parts_position,
+      parts_source,
     };
 
     /// The parts of the stream with this streaminfo, whose next byte is at this position. Where no streaminfo is known the frames are
@@ -170,6 +171,21 @@ impl<R: ReadBytes> Parts<R> {
         ensures keeps_stream { KeepsStream self.old self.new }
     {
         self.next_part_exact()
+    }
+
+    /// The source. Of its bytes those are read that the parts hold, and some after them.
+    pub fn into_source(self) -> R
+        ensures is_source { result ≡ parts_source self }
+    {
+        let Parts {
+            window,
+            stream: _,
+            memory: _,
+            position: _,
+            budget: _,
+            usual: _,
+        } = self;
+        window.into_source()
     }
 
     // `next_part`, with one clause of what it answers.

@@ -88,6 +88,20 @@ impl<R: ReadBytes> Window<R> {
         self.taken += count;
     }
 
+    // The source, from which the pending bytes were read.
+    pub(crate) fn into_source(self) -> R
+        ensures { result ≡ window_source self }
+    {
+        let Window {
+            source,
+            most: _,
+            bytes: _,
+            taken: _,
+            spare: _,
+        } = self;
+        source
+    }
+
     // Reads on until so many bytes are pending. Returns whether there were so many.
     pub(crate) fn fill(&mut self, wanted: usize) -> Result<bool>
         requires { wanted ≤ most_pending self.old }

@@ -5,13 +5,12 @@ use Rattle.std.specs.Prelude.{Bool, false, None, ◌↔◌}
 use Rattle.claxon.specs.Errors.{Error}
 use Rattle.claxon.specs.MetadataBlock.{info_view, or_zero}
 use Rattle.claxon.specs.SampleRuns.{lent}
-use Rattle.claxon.specs.Source.{IsKnown, Source}
+use Rattle.claxon.specs.Source.{Source}
 use Rattle.claxon.specs.State.{State, bytes_in, RemainingIsKnown}
 use Rattle.claxon.specs.StreamInfos.{StreamInfo}
 use Rattle.claxon_blocks.specs.Md5Verdict.{HasHashedBytes, Md5IsJudged, Md5IsShown}
-use Rattle.claxon_recovery.specs.Parts.{BeginsParts, SourceIsKnown, parts_position, parts_source, unread}
+use Rattle.claxon_recovery.specs.Parts.{BeginsParts, parts_position, parts_source}
 use Rattle.claxon_recovery.specs.Runs.{AreSearched}
-use Rattle.claxon_recovery.specs.Window.{bytes_left}
 use Rattle.claxon_recovery.specs.declared.parts.Parts.{Parts}
 use Rattle.claxon_verify.specs.FramesAlone.{IsOfFrames, StopsFrames}
 use Rattle.claxon_places.specs.Kept.{AreKept, Keeps}
@@ -26,6 +25,7 @@ use Rattle.claxon_places.specs.declared.place.Place.{Place}
 use Rattle.claxon_verify.specs.declared.report.Report.{Report}
 use Rattle.claxon_verify.specs.declared.walk.Walk.{Walk}
 use Rattle.claxon_verify.proofs.PartsNoted.{same_notes}
+use Rattle.claxon_verify.proofs.PartsStopped.{known_unread, parts_failed, unread_is}
 use Rattle.claxon_verify.proofs.PartsTrailed.{CountsToTail}
 use Rattle.claxon_verify.proofs.PartsVerified.{CountsParts}
 use Rattle.claxon_verify.proofs.Trailed.{told}
@@ -34,24 +34,16 @@ use Rattle.claxon_verify.proofs.Verified.{judged_md5, shown_md5}
 -- ---- from where the parts begin
 
 module _ {R : Type 0} (source : R → Source ℕ) {info : StreamInfo} {start : ℕ} {input : MutBor R} {p : Parts (MutBor R)} (begins : BeginsParts input (Some info) start p) (first : start ≡ 0) where
-  known_unread : RemainingIsKnown (bytes_in source input.now) → SourceIsKnown (lent source) p
-  unfolding bytes_in
-  known_unread k = subst (λ (z : MutBor R). IsKnown (lent source z).remaining) (sym begins.source_is) k
-
-  unread_is : unread (lent source) p ≡ (bytes_in source input.now).remaining
-  unfolding bytes_in
-  unread_is = ap (λ (z : List ℕ). z ++ bytes_left (lent source (parts_source p))) begins.none_pending ∙ ap (λ (z : MutBor R). bytes_left (lent source z)) begins.source_is
-
   pub frames_counted : {A : Type 0} (computes_md5 : Bool) (walk : Walk A) → WalksParts (lent source) computes_md5 info p walk → CountsParts computes_md5 info 0 (bytes_in source input.now) walk
   frames_counted computes_md5 walk walks k counts counted =
-      subst (λ (n : ℕ). Of n (bytes_in source input.now).remaining) (begins.position_is ∙ first) (subst (λ (z : List ℕ). Of (parts_position p) z) unread_is (walks (known_unread k) counts counted))
+      subst (λ (n : ℕ). Of n (bytes_in source input.now).remaining) (begins.position_is ∙ first) (subst (λ (z : List ℕ). Of (parts_position p) z) (unread_is source begins) (walks (known_unread source begins k) counts counted))
     where
       Of : ℕ → List ℕ → Type 0
       Of n z = (parts : PartsCounted info n z counts) × HasHashedBytes computes_md5 (bytes_of_frames (info_view info).bit_depth (part_frames parts.parts)) walk.md5 × ((walk.notes.has_unsearched ≡ false) ↔ AreSearched parts.parts) × NotesOfParts (info_view info) parts.parts parts.found walk.notes
 
   pub frames_to_tail : {A : Type 0} (computes_md5 : Bool) (walk : Walk A) → WalksPartsToTail (lent source) computes_md5 info p walk → CountsToTail computes_md5 info 0 (bytes_in source input.now) walk
   frames_to_tail computes_md5 walk walks k counts counted =
-      subst (λ (n : ℕ). Of n (bytes_in source input.now).remaining) (begins.position_is ∙ first) (subst (λ (z : List ℕ). Of (parts_position p) z) unread_is (walks (known_unread k) counts counted))
+      subst (λ (n : ℕ). Of n (bytes_in source input.now).remaining) (begins.position_is ∙ first) (subst (λ (z : List ℕ). Of (parts_position p) z) (unread_is source begins) (walks (known_unread source begins k) counts counted))
     where
       Of : ℕ → List ℕ → Type 0
       Of n z =
@@ -60,12 +52,12 @@ module _ {R : Type 0} (source : R → Source ℕ) {info : StreamInfo} {start : �
 
   -- ---- where they stop
 
-  pub frames_stop : (q : Parts (MutBor R)) (e : Error) → StopsWalk (lent source) info p q e → StopsFrames info (bytes_in source input.now) e
-  frames_stop q e stops = elim stops [
+  pub frames_stop : (q : Parts (MutBor R)) (e : Error) → StopsWalk (lent source) info p q e → (last : R) → (input.ghost_name ≡ (parts_source q).ghost_name → last ≡ (parts_source q).now) → StopsFrames info (bytes_in source input.now) (bytes_in source last) e
+  frames_stop q e stops last is = elim stops [
     | inl (inl memory) ↦ inl memory
-    | inl (inr (inl failed)) ↦ inr (inl failed.is_io)
-    | inl (inr (inr many)) ↦ inr (inr (λ known. inr (subst (λ (z : List ℕ). 2 ^ 64 ≤ length z) unread_is (many (known_unread known)))))
-    | inr many ↦ inr (inr (λ known. inl (many.0, subst (λ (n : ℕ). BeginsWithTooMany info n (bytes_in source input.now).remaining) (begins.position_is ∙ first) (subst (λ (z : List ℕ). BeginsWithTooMany info (parts_position p) z) unread_is (many.1 (known_unread known))))))
+    | inl (inr (inl failed)) ↦ inr (inl (failed.is_io, λ known. (parts_failed source input p q begins.source_is e failed last is known).1))
+    | inl (inr (inr many)) ↦ inr (inr (λ known. inr (subst (λ (z : List ℕ). 2 ^ 64 ≤ length z) (unread_is source begins) (many (known_unread source begins known)))))
+    | inr many ↦ inr (inr (λ known. inl (many.0, subst (λ (n : ℕ). BeginsWithTooMany info n (bytes_in source input.now).remaining) (begins.position_is ∙ first) (subst (λ (z : List ℕ). BeginsWithTooMany info (parts_position p) z) (unread_is source begins) (many.1 (known_unread source begins known))))))
   ]
 
 -- ---- a report

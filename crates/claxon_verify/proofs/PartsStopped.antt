@@ -1,7 +1,7 @@
 -- Why parts of a stream aren't all found.
 use Rattle.std.specs.Borrow.{MutBor}
-use Rattle.std.proofs.Common.{◌≡◌, ◌⊎◌, ◌<◌, ◌≤◌, ◌+◌, ◌^◌, ℕ, List, [], ◌∷◌, ◌++◌, length, inl, inr, refl, sym, ap, arith, subst, ◌∙◌, length-append}
-use Rattle.std.specs.Prelude.{Bool, Option, Some, Result, Ok, Err}
+use Rattle.std.proofs.Common.{◌≡◌, ◌≢◌, ◌<◌, ◌≤◌, ◌+◌, ◌^◌, ℕ, List, [], ◌∷◌, ◌++◌, length, inl, inr, refl, sym, ap, arith, subst, ◌∙◌, length-append}
+use Rattle.std.specs.Prelude.{Bool, Option, None, Some, Result, Ok, Err}
 use Rattle.std.specs.List.{sum_by}
 use Rattle.std.proofs.lemmas.List.Sums.{sum_by_push}
 use Rattle.claxon.specs.DecodedFrame.{decoded_view}
@@ -10,24 +10,24 @@ use Rattle.claxon.specs.Errors.{Error}
 use Rattle.claxon.specs.Errors.TheVariants.{FormatError, IoError, OutOfMemory, Unsupported}
 use Rattle.claxon.specs.Fault.{Fault}
 use Rattle.claxon.specs.Frame.{StreamFormat}
-use Rattle.claxon.specs.Gives.{GivesOrOutOfMemory}
+use Rattle.claxon.specs.Gives.{GivesOrOutOfMemory, ReadFailedIn}
 use Rattle.claxon.specs.MetadataBlock.{info_view}
 use Rattle.claxon.specs.Prefix.{BeginsWith}
 use Rattle.claxon.specs.RunningReader.{running_inner, running_source}
 use Rattle.claxon.specs.RunningReaders.{RunningReader}
 use Rattle.claxon.specs.SampleRuns.{lent}
-use Rattle.claxon.specs.Source.{IsKnown, Source}
-use Rattle.claxon.specs.State.{State, bytes_in, RemainingIsKnown}
+use Rattle.claxon.specs.Source.{HasMore, IsKnown, Source}
+use Rattle.claxon.specs.State.{State, bytes_in, RemainingIsKnown, remaining_as}
 use Rattle.claxon.specs.StreamInfos.{StreamInfo}
 use Rattle.claxon_input.proofs.Promises.{fault_is}
-use Rattle.claxon_recovery.specs.Parts.{BeginsParts, IsPart, PartStops, SourceIsKnown, after_part, parts_known, parts_position, parts_source, unread}
+use Rattle.claxon_recovery.specs.Parts.{BeginsParts, IsPart, PartFails, PartStops, SourceIsKnown, after_part, parts_known, parts_position, parts_source, unread}
 use Rattle.claxon_recovery.specs.Runs.{FindsFrame}
-use Rattle.claxon_recovery.specs.Window.{Reads, bytes_left}
+use Rattle.claxon_recovery.specs.Window.{Fails, Reads, bytes_left}
 use Rattle.claxon_recovery.specs.declared.part.Part.{Part}
 use Rattle.claxon_recovery.specs.declared.part.Part.TheVariants.{Frame as IsFrame, Damage as IsDamage}
 use Rattle.claxon_recovery.specs.declared.parts.Parts.{Parts}
 use Rattle.claxon_recovery.proofs.Reading.{fails_after}
-use Rattle.claxon_verify.specs.PartFaults.{AnsweredUpTo, BeginsWithHead, BeginsWithTooMany, ExceedsPart, HasTooManyParts, KeepsLoansOrHead, PartsFaultIsSound, StopsWalk}
+use Rattle.claxon_verify.specs.PartFaults.{AnsweredUpTo, BeginsWithHead, BeginsWithTooMany, CountedFaultIsSound, ExceedsPart, HasTooManyParts, PartsFaultIsSound, StopsParts, StopsWalk}
 use Rattle.claxon_verify.specs.RightStream.{frame_duration}
 use Rattle.claxon_heads.specs.StreamHead.{FoundHead, FoundHeadAnswer, FoundHeadFault, HeadNeedsMemory, OutOfMemoryOnlyWhere, found_head_at, found_head_view}
 use Rattle.claxon_verify.specs.VerifiedParts.{part_frames}
@@ -37,7 +37,7 @@ use Rattle.claxon_heads.specs.declared.bytes_read.BytesRead.{BytesRead}
 use Rattle.claxon_verify.specs.declared.report.Report.{Report}
 use Rattle.claxon_verify.specs.declared.walk.Walk.{Walk}
 use Rattle.claxon_verify.proofs.PartsWalked.{PartsSoFar, answered, frames_append}
-use Rattle.claxon_verify.proofs.Verified.{HeadIsConsumed, fault_begins, has_neither, head_code, refused, same_input}
+use Rattle.claxon_verify.proofs.Verified.{HeadIsConsumed, failed_since, fault_begins, has_neither, head_code, refused, same_input}
 
 -- ---- parts, one after another
 
@@ -98,25 +98,54 @@ module _ {R A : Type 0} {source : R → Source ℕ} {computes_md5 : Bool} {info 
         },
   )
 
+-- ---- from where the parts begin
+
+module _ {R : Type 0} (source : R → Source ℕ) {known : Option StreamInfo} {start : ℕ} {input : MutBor R} {p : Parts (MutBor R)} (begins : BeginsParts input known start p) where
+  pub known_unread : RemainingIsKnown (bytes_in source input.now) → SourceIsKnown (lent source) p
+  unfolding bytes_in
+  known_unread k = subst (λ (z : MutBor R). IsKnown (lent source z).remaining) (sym begins.source_is) k
+
+  pub unread_is : unread (lent source) p ≡ (bytes_in source input.now).remaining
+  unfolding bytes_in
+  unread_is = ap (λ (z : List ℕ). z ++ bytes_left (lent source (parts_source p))) begins.none_pending ∙ ap (λ (z : MutBor R). bytes_left (lent source z)) begins.source_is
+
+-- ---- reads that failed
+
+more_left : (o : Option (List ℕ)) → IsKnown o → HasMore o → remaining_as (λ all. all) o ≢ []
+more_left None known more = absurd known
+more_left (Some all) known more = more
+
+-- a read of a source that was lent
+pub lent_failed : {R : Type 0} (source : R → Source ℕ) (x y : MutBor R) → RemainingIsKnown (bytes_in source x.now) → Fails (lent source x) (lent source y) → ReadFailedIn (bytes_in source x.now) (bytes_in source y.now)
+unfolding bytes_in
+lent_failed source x y known fails =
+    let f = fails.known known in
+    elim f.failed [ inl e ↦ inl e | inr e ↦ inr (e.0, more_left (source y.now).remaining f.known e.1) ]
+
+-- The source failed, and is reached as before.
+abbrev pub HasFailedAgain : State ℕ → State ℕ → Type 0
+HasFailedAgain a b = (b.source.loans ≡ a.source.loans) × ReadFailedIn a b
+
+-- parts of a source that was lent: what is left in it then is known
+pub parts_failed : {R : Type 0} (source : R → Source ℕ) (input : MutBor R) (p q : Parts (MutBor R)) → parts_source p ≡ input → (e : Error) → PartFails (lent source) p q e → (last : R) → (input.ghost_name ≡ (parts_source q).ghost_name → last ≡ (parts_source q).now) → RemainingIsKnown (bytes_in source input.now) → HasFailedAgain (bytes_in source input.now) (bytes_in source last)
+unfolding bytes_in
+parts_failed source input p q begins e failed last is known =
+    let fails = subst (λ (z : MutBor _). Fails (lent source z) (lent source (parts_source q))) begins failed.fails in
+    let loans : (parts_source q).ghost_name ∷ (source (parts_source q).now).loans ≡ input.ghost_name ∷ (source input.now).loans = fails.loans in
+    let name : input.ghost_name ≡ (parts_source q).ghost_name = cc in
+    let same : (source (parts_source q).now).loans ≡ (source input.now).loans = cc in
+    subst (λ (z : _). HasFailedAgain (bytes_in source input.now) (bytes_in source z)) (sym (is name)) (same, lent_failed source input (parts_source q) known fails)
+
 -- ---- the whole stream
 
 -- a head wasn't read
 module _ (a m : State ℕ) (e : Error) (gives : GivesOrOutOfMemory found_head_view (let r : FoundHeadAnswer = Err e in r) found_head_at a m) where
-  pub head_stops : OutOfMemoryOnlyWhere HeadNeedsMemory (let r : FoundHeadAnswer = Err e in r) a → PartsFaultIsSound {A = Unit {0}} a (Err e) m
+  pub head_stops : OutOfMemoryOnlyWhere HeadNeedsMemory (let r : FoundHeadAnswer = Err e in r) a → RemainingIsKnown a → StopsParts (HasFailedAgain a m) a.remaining e
   head_stops memory known = elim (refused a m e gives) [
     | inl n ↦ inl (n, inl (memory (ap (λ (z : Error). Err z) n) known))
-    | inr (inl io) ↦ inr (inl (io.0, elim (io.1.known known).why [ inl p ↦ inl (has_neither a.remaining p) | inr failed ↦ inr (inl failed) ]))
+    | inr (inl io) ↦ inr (inl (io.0, elim (io.1.known known).why [ inl p ↦ inl (has_neither a.remaining p) | inr failed ↦ inr (io.1.loans, failed) ]))
     | inr (inr k) ↦ (let f = fault_is e (found_head_at a.remaining) m.remaining (k.known known).is in inr (inr (inr (inl (f.0, f.1, fault_begins a.remaining f.0 m.remaining f.2)))))
   ]
-
-  pub head_keeps : m.source.loans ≡ a.source.loans
-  head_keeps = kept e gives
-    where
-      kept : (z : Error) → GivesOrOutOfMemory found_head_view (let r : FoundHeadAnswer = Err z in r) found_head_at a m → m.source.loans ≡ a.source.loans
-      kept (IoError cause) h = (h.failure refl).loans
-      kept (FormatError text) h = (h.fault refl).loans
-      kept (Unsupported text) h = (h.fault refl).loans
-      kept OutOfMemory h = h.consumed.loans
 
 module _ {a m : State ℕ} {head : FoundHead} {stream : Option StreamFormat} {start : ℕ} (h : HeadIsConsumed a m head stream start) (known : RemainingIsKnown a) where
   pub begins_with_head : BeginsWithHead a.remaining
@@ -146,57 +175,34 @@ module _ {a m : State ℕ} {head : FoundHead} {stream : Option StreamFormat} {st
         begins = begins;
       }
 
--- Why an Err comes after a head.
-abbrev pub StopsAfterHead : List ℕ → Error → Type 0
-StopsAfterHead s e =
-    ((e ≡ OutOfMemory) × (HeadNeedsMemory s ⊎ BeginsWithHead s))
-    ⊎ ((IsIo e × BeginsWithHead s)
-    ⊎ ((IsTooMany e × HasTooManyParts s)
-    ⊎ (((f : Fault) × IsFault f e × BeginsWith (FoundHeadFault f) s)
-    ⊎ (2 ^ 64 ≤ length s))))
-
--- whatever is left
-pub after_head : {P N F H I R : Type 0} → P ⊎ ((I × H) ⊎ R) → P ⊎ ((I × (N ⊎ (F ⊎ H))) ⊎ R)
-after_head (inl p) = inl p
-after_head (inr (inl io)) = inr (inl (io.0, inr (inr io.1)))
-after_head (inr (inr r)) = inr (inr r)
-
 -- memory for the parts was refused
-pub memory_stops : {a m : State ℕ} {head : FoundHead} {stream : Option StreamFormat} {start : ℕ} (h : HeadIsConsumed a m head stream start) (known : RemainingIsKnown a) (e : Error) → e ≡ OutOfMemory → StopsAfterHead a.remaining e
+pub memory_stops : {F : Type 0} {a m : State ℕ} {head : FoundHead} {stream : Option StreamFormat} {start : ℕ} (h : HeadIsConsumed a m head stream start) (known : RemainingIsKnown a) (e : Error) → e ≡ OutOfMemory → StopsParts F a.remaining e
 memory_stops h known e is = inl (is, inr (begins_with_head h known))
 
 -- parts were read
-pub parts_stop : {R : Type 0} (source : R → Source ℕ) {a : State ℕ} (input : MutBor (RunningReader R BytesRead)) {head : FoundHead} {stream : Option StreamFormat} {start : ℕ} (h : HeadIsConsumed a (counted_bytes source input.now) head stream start) (known : RemainingIsKnown a) (info : StreamInfo) → head.info ≡ info_view info → (at : ℕ) → at ≡ start → at < 2 ^ 64 → (p q : Parts (MutBor (RunningReader R BytesRead)))
-    → BeginsParts input (Some info) at p → (e : Error) → StopsWalk (lent (running_source source update_position)) info p q e → StopsAfterHead a.remaining e
-unfolding bytes_in
-parts_stop source {a = a} input {start = start} h known info of_info at same small p q begins e stops =
+pub parts_stop : {R : Type 0} (source : R → Source ℕ) {a : State ℕ} (input : MutBor (RunningReader R BytesRead)) {head : FoundHead} {stream : Option StreamFormat} {start : ℕ} (h : HeadIsConsumed a (counted_bytes source input.now) head stream start) (loans : (counted_bytes source input.now).source.loans ≡ a.source.loans) (known : RemainingIsKnown a) (info : StreamInfo) → head.info ≡ info_view info → (at : ℕ) → at ≡ start → at < 2 ^ 64
+    → (p q : Parts (MutBor (RunningReader R BytesRead))) → BeginsParts input (Some info) at p → (e : Error) → StopsWalk (lent (running_source source update_position)) info p q e → (last : RunningReader R BytesRead) → (input.ghost_name ≡ (parts_source q).ghost_name → last ≡ (parts_source q).now) → StopsParts (HasFailedAgain a (counted_bytes source last)) a.remaining e
+parts_stop source {a = a} input {start = start} h loans known info of_info at same small p q begins e stops last is =
     let s = lent (running_source source update_position) in
     let m = counted_bytes source input.now in
-    let k : SourceIsKnown s p = subst (λ (z : MutBor _). IsKnown (s z).remaining) (sym begins.source_is) (h.known known) in
-    let left : unread s p ≡ m.remaining = ap (λ (z : List ℕ). z ++ bytes_left (s (parts_source p))) begins.none_pending ∙ ap (λ (z : MutBor _). bytes_left (s z)) begins.source_is in
+    let k : SourceIsKnown s p = known_unread (running_source source update_position) begins (h.known known) in
+    let left : unread s p ≡ m.remaining = unread_is (running_source source update_position) begins in
     elim stops [
       | inl (inl memory) ↦ inl (memory, inr (begins_with_head h known))
-      | inl (inr (inl failed)) ↦ inr (inl (failed.is_io, begins_with_head h known))
+      | inl (inr (inl failed)) ↦ (let f = parts_failed (running_source source update_position) input p q begins.source_is e failed last is (h.known known) in inr (inl (failed.is_io, inr (f.0 ∙ loans, failed_since (counted_bytes source last) h f.1))))
       | inl (inr (inr many)) ↦ inr (inr (inr (inr (many_bytes h known (subst (λ (z : List ℕ). 2 ^ 64 ≤ length z) left (many k))))))
       | inr many ↦ inr (inr (inl (many.0, has_too_many h known info of_info (subst (λ (b : ℕ). b < 2 ^ 64) same small) (subst (λ (b : ℕ). BeginsWithTooMany info b m.remaining) (begins.position_is ∙ same) (subst (λ (z : List ℕ). BeginsWithTooMany info (parts_position p) z) left (many.1 k))))))
     ]
 
 -- ---- through the reader that counts bytes
 
--- after a head, whatever is left
-any_left : {P N F G H I R : Type 0} → H → P ⊎ ((I × (N ⊎ (F ⊎ H))) ⊎ R) → P ⊎ ((I × (N ⊎ (G ⊎ H))) ⊎ R)
-any_left head (inl p) = inl p
-any_left head (inr (inl io)) = inr (inl (io.0, elim io.1 [ inl n ↦ inl n | inr f ↦ inr (inr head) ]))
-any_left head (inr (inr r)) = inr (inr r)
-
-pub fault_through : {R A : Type 0} (source : R → Source ℕ) (input : MutBor R) (x y : RunningReader (MutBor R) BytesRead) (at : running_inner x ≡ input) (result : Result (Report A) Error) → KeepsLoansOrHead (counted_bytes (lent source) x) result (counted_bytes (lent source) y) → PartsFaultIsSound (counted_bytes (lent source) x) result (counted_bytes (lent source) y) → (last : R)
-    → (input.ghost_name ≡ (running_inner y).ghost_name → last ≡ (running_inner y).now) → PartsFaultIsSound (bytes_in source input.now) result (bytes_in source last)
+pub fault_through : {R A : Type 0} (source : R → Source ℕ) (input : MutBor R) (x y : RunningReader (MutBor R) BytesRead) (at : running_inner x ≡ input) (result : Result (Report A) Error) → CountedFaultIsSound (counted_bytes (lent source) x) result (counted_bytes (lent source) y) → (last : R) → (input.ghost_name ≡ (running_inner y).ghost_name → last ≡ (running_inner y).now) → PartsFaultIsSound (bytes_in source input.now) result (bytes_in source last)
 unfolding bytes_in
-fault_through source input x y at (Ok report) keeps h last is = tt
-fault_through {R = R} source input x y at (Err e) keeps h last is =
-    let err : Result (Report R) Error = Err e in
-    let k = subst (λ (z : MutBor R). PartsFaultIsSound (bytes_in source z.now) err (bytes_in source (running_inner y).now)) at h in
-    elim keeps [
-      | inl loans ↦ subst (λ (z : R). PartsFaultIsSound (bytes_in source input.now) err (bytes_in source z)) (sym (is (same_input source input x y at loans))) k
-      | inr head ↦ λ known. any_left (subst (λ (z : MutBor R). RemainingIsKnown (bytes_in source z.now) → BeginsWithHead (bytes_in source z.now).remaining) at head known) (k known)
-    ]
+fault_through source input x y at (Ok report) h last is = tt
+fault_through {R = R} source input x y at (Err e) h last is =
+    subst (λ (z : MutBor R). RemainingIsKnown (bytes_in source z.now) → StopsParts (ReadFailedIn (bytes_in source z.now) (bytes_in source last)) (bytes_in source z.now).remaining e) at
+    (λ known. elim (h known) [
+      | inl memory ↦ inl memory
+      | inr (inl io) ↦ inr (inl (io.0, elim io.1 [ inl n ↦ inl n | inr f ↦ inr (subst (λ (z : R). ReadFailedIn (bytes_in source (running_inner x).now) (bytes_in source z)) (sym (is (same_input source input x y at f.0))) f.1) ]))
+      | inr (inr r) ↦ inr (inr r)
+    ])

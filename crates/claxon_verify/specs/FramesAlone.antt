@@ -3,6 +3,7 @@ use Rattle.std.specs.Prelude.{◌≡◌, ◌⊎◌, ◌↔◌, ◌^◌, ◌≤�
 use Rattle.claxon.specs.Error.{IsIo}
 use Rattle.claxon.specs.Errors.{Error}
 use Rattle.claxon.specs.Errors.TheVariants.{OutOfMemory}
+use Rattle.claxon.specs.Gives.{ReadFailedIn}
 use Rattle.claxon.specs.MetadataBlock.{info_view}
 use Rattle.claxon.specs.State.{State, RemainingIsKnown}
 use Rattle.claxon.specs.StreamInfos.{StreamInfo}
@@ -51,16 +52,18 @@ FramesTrailingIsTold info old result =
     × TrailingIs ⊥ None (scan_of (info_view (without_samples info)) is.counted.found) 0
     old.remaining is.counted.end report.trailing)
 
--- Why frames aren't all found: the error is `OutOfMemory` or an `IoError`; it says that there are
--- more parts or samples than can be counted, and so it is; or there are 2^64 bytes or more.
-abbrev pub StopsFrames : StreamInfo → State ℕ → Error → Type 0
-StopsFrames info old e =
+-- Why frames aren't all found: the error is `OutOfMemory`, or an `IoError`, and the source failed;
+-- it says that there are more parts or samples than can be counted, and so it is; or there are 2^64
+-- bytes or more.
+abbrev pub StopsFrames : StreamInfo → State ℕ → State ℕ → Error → Type 0
+StopsFrames info old new e =
     (e ≡ OutOfMemory)
-    ⊎ (IsIo e
+    ⊎ ((IsIo e × (RemainingIsKnown old → ReadFailedIn old new))
     ⊎ (RemainingIsKnown old → (IsTooMany e × BeginsWithTooMany info 0 old.remaining)
     ⊎ (2 ^ 64 ≤ length old.remaining)))
 
 -- An Err says why.
 abbrev pub FramesFaultIsSound : {A : Type 0} → StreamInfo → State ℕ → Result (Report A) Error
-    → Type 0
-FramesFaultIsSound info old result = IfErr result (StopsFrames (without_samples info) old)
+    → State ℕ → Type 0
+FramesFaultIsSound info old result new =
+    IfErr result (StopsFrames (without_samples info) old new)

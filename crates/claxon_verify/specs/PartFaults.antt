@@ -81,25 +81,30 @@ pub record HasTooManyParts (s : List ℕ) : Type 0 where
 abbrev pub BeginsWithHead : List ℕ → Type 0
 BeginsWithHead s = (head : FoundHead) × BeginsWith (FoundHeadCode head) s
 
--- An Err is `OutOfMemory`, after the header of a metadata block or after a head; an `IoError`,
--- where the bytes begin with neither a head nor a fault of one, the source failed, or after a head;
--- it says that there are more parts or samples than can be counted, or names a fault of a head, and
--- so it is; or there are 2^64 bytes or more.
+-- An error is `OutOfMemory`, after the header of a metadata block or after a head; an `IoError`,
+-- where s begins with neither a head nor a fault of one, or the source failed; it says that there
+-- are more parts or samples than can be counted, or names a fault of a head, and so it is; or there
+-- are 2^64 bytes or more.
+abbrev pub StopsParts : Type 0 → List ℕ → Error → Type 0
+StopsParts failed s e =
+    ((e ≡ OutOfMemory) × (HeadNeedsMemory s ⊎ BeginsWithHead s))
+    ⊎ ((IsIo e × (HasNeither FoundHeadCode FoundHeadFault s ⊎ failed))
+    ⊎ ((IsTooMany e × HasTooManyParts s)
+    ⊎ (((f : Fault) × IsFault f e × BeginsWith (FoundHeadFault f) s) ⊎ (2 ^ 64 ≤ length s))))
+
+-- An Err says why.
 abbrev pub PartsFaultIsSound : {A : Type 0} → State ℕ → Result (Report A) Error → State ℕ → Type 0
 PartsFaultIsSound old result new =
-    IfErr result (λ e. RemainingIsKnown old
-    → ((e ≡ OutOfMemory) × (HeadNeedsMemory old.remaining ⊎ BeginsWithHead old.remaining))
-    ⊎ ((IsIo e × (HasNeither FoundHeadCode FoundHeadFault old.remaining
-    ⊎ (ReadFailedIn old new ⊎ BeginsWithHead old.remaining)))
-    ⊎ ((IsTooMany e × HasTooManyParts old.remaining)
-    ⊎ (((f : Fault) × IsFault f e × BeginsWith (FoundHeadFault f) old.remaining)
-    ⊎ (2 ^ 64 ≤ length old.remaining)))))
+    IfErr result (λ e.
+    RemainingIsKnown old → StopsParts (ReadFailedIn old new) old.remaining e)
 
--- The input is reached as before, or an Err came after a head: what is left then isn't known.
-abbrev pub KeepsLoansOrHead : {A : Type 0} → State ℕ → Result (Report A) Error → State ℕ → Type 0
-KeepsLoansOrHead old result new =
-    IfErr result (λ e. (new.source.loans ≡ old.source.loans)
-    ⊎ (RemainingIsKnown old → BeginsWithHead old.remaining))
+-- It says why. Where the source failed, it is reached as before.
+abbrev pub CountedFaultIsSound : {A : Type 0} → State ℕ → Result (Report A) Error → State ℕ
+    → Type 0
+CountedFaultIsSound old result new =
+    IfErr result (λ e.
+    RemainingIsKnown old
+    → StopsParts ((new.source.loans ≡ old.source.loans) × ReadFailedIn old new) old.remaining e)
 
 -- ---- the walk
 

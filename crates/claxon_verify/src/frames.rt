@@ -35,7 +35,8 @@ pub fn verify_frames<R: ReadBytes, E: Write>(
 ) -> Result<Report>
     requires has_bit_depth { HasBitDepth info }
     ensures is_sound { FramesReportIsSound info (bytes_in R.source input.old) result }
-    ensures fault_is_sound { FramesFaultIsSound info (bytes_in R.source input.old) result }
+    ensures fault_is_sound { FramesFaultIsSound info (bytes_in R.source input.old) result
+        (bytes_in R.source input.new) }
     ensures trailing_is_told { FramesTrailingIsTold info (bytes_in R.source input.old) result }
     ensures keeps_at_most { KeepsAtMost more result }
     ensures is_quiet { VerifyIsQuiet result progress.old progress.new }
@@ -47,9 +48,11 @@ pub fn verify_frames<R: ReadBytes, E: Write>(
     let start = 0;
     progress.start(info.samples);
     let mut parts = Parts::new(alloc, input, Some(info), start)?;
-    let walk = walk_parts(alloc, &mut parts, info, start, false, more, progress)?;
+    let walked = walk_parts(alloc, &mut parts, info, start, false, more, progress);
+    // So it is known what was read of the input, and whether a read failed.
+    parts.into_source();
     Ok(Report {
         is_right: false,
-        ..report_of(info, None, walk)
+        ..report_of(info, None, walked?)
     })
 }

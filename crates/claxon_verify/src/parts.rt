@@ -21,8 +21,8 @@ ghost use Rattle.claxon_verify.specs.VerifiedParts.{
   is_byte_left,
 };
 ghost use Rattle.claxon_verify.specs.PartFaults.{
+  CountedFaultIsSound,
   ExceedsPart,
-  KeepsLoansOrHead,
   PartsFaultIsSound,
   StopsWalk,
 };
@@ -86,9 +86,7 @@ fn verify_counted_parts<R: ReadBytes, E: Write>(
 ) -> Result<Report>
     requires { position_of input.old ≡ 0 }
     ensures is_sound { PartsReportIsSound computes_md5 (counted_bytes R.source input.old) result }
-    ensures fault_is_sound { PartsFaultIsSound (counted_bytes R.source input.old) result
-        (counted_bytes R.source input.new) }
-    ensures loans { KeepsLoansOrHead (counted_bytes R.source input.old) result
+    ensures fault_is_sound { CountedFaultIsSound (counted_bytes R.source input.old) result
         (counted_bytes R.source input.new) }
     ensures trailing_is_told { PartsTrailingIsTold computes_md5 (counted_bytes R.source input.old)
         result }
@@ -99,8 +97,10 @@ fn verify_counted_parts<R: ReadBytes, E: Write>(
     progress.start(info.samples);
     let start = input.value().bytes;
     let mut parts = Parts::new(alloc, input, Some(info), start)?;
-    let walk = walk_parts(alloc, &mut parts, info, start, computes_md5, more, progress)?;
-    Ok(report_of(info, unsupported, walk))
+    let walked = walk_parts(alloc, &mut parts, info, start, computes_md5, more, progress);
+    // So it is known what was read of the input, and whether a read failed.
+    parts.into_source();
+    Ok(report_of(info, unsupported, walked?))
 }
 
 /// Finds parts up to the end.
