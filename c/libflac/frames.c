@@ -190,6 +190,20 @@ static int write_block(struct decoder *self, const struct claxon_stream *engine,
     return write_frame(self, engine->samples, skipped);
 }
 
+/* Tells why a block that was decoded isn't handed over: a sample has more bits than it should have, or nothing says how many
+ * samples a second has. Returns whether that is so. */
+static int is_refused(struct decoder *self, const struct claxon_stream *engine, const FLAC__FrameHeader *header) {
+    if (header->sample_rate == 0 && !self->has_streaminfo) {
+        send_error(self, FLAC__STREAM_DECODER_ERROR_STATUS_UNPARSEABLE_STREAM);
+    } else if (is_too_wide(&engine->block, engine->samples, header->bits_per_sample)) {
+        send_error(self, FLAC__STREAM_DECODER_ERROR_STATUS_FRAME_CRC_MISMATCH);
+    } else {
+        return false;
+    }
+    send_error(self, FLAC__STREAM_DECODER_ERROR_STATUS_LOST_SYNC);
+    return true;
+}
+
 enum handed hand_block(struct decoder *self, const struct claxon_stream *engine, uint64_t begin, uint64_t from,
                        int is_written) {
     const struct claxon_block *block = &engine->block;
@@ -201,9 +215,7 @@ enum handed hand_block(struct decoder *self, const struct claxon_stream *engine,
     fill_header(self, &header, block);
     header.number.sample_number = time_of(self, engine, bytes);
     raw_fill_header(&header, bytes);
-    if (is_too_wide(block, engine->samples, header.bits_per_sample)) {
-        send_error(self, FLAC__STREAM_DECODER_ERROR_STATUS_FRAME_CRC_MISMATCH);
-        send_error(self, FLAC__STREAM_DECODER_ERROR_STATUS_LOST_SYNC);
+    if (is_refused(self, engine, &header)) {
         return HANDED_NOTHING;
     }
     if (is_written) {
