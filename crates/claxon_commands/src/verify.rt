@@ -14,6 +14,7 @@ use claxon_command_line::names::{escaped_bytes, not_utf8_name, read_name};
 use claxon_command_line::progress::{Position, Progress, file_label};
 use claxon_program::Program;
 use claxon_recovery::{Parts, info_of_frame};
+use claxon_report::Report;
 use claxon_verdict::container::container;
 use claxon_verdict::options::{FileNames, NamedFiles, Options, VerifyRequest, parse};
 use claxon_verdict::print::{
@@ -22,7 +23,6 @@ use claxon_verdict::print::{
 };
 use claxon_verdict::tally::Tally;
 use claxon_verdict::verdict::{Verdict, WrongHead};
-use claxon_verify::report::Report;
 use claxon_verify::{verify, verify_frames, verify_parts};
 use std::alloc::Global;
 use std::io::{Cursor, Read, Write};

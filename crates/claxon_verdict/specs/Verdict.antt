@@ -57,10 +57,10 @@ use Rattle.claxon_verdict.specs.declared.verdict.Verdict.TheVariants.{
 use Rattle.claxon_blocks.specs.declared.frames.FrameError.{FrameError}
 use Rattle.claxon_command_line.specs.declared.messages.Part.TheVariants.{Frame, Head}
 use Rattle.claxon.specs.MetadataBlock.{or_zero}
-use Rattle.claxon_verify.specs.Verify.{NothingIsWrong}
-use Rattle.claxon_verify.specs.declared.report.BlockSizes.{BlockSizes}
-use Rattle.claxon_places.specs.declared.place.Damage.{Damage}
-use Rattle.claxon_places.specs.declared.place.Damage.TheVariants.{
+use Rattle.claxon_report.specs.Report.{NothingIsWrong}
+use Rattle.claxon_report.specs.declared.report.BlockSizes.{BlockSizes}
+use Rattle.claxon_report.specs.declared.place.Damage.{Damage}
+use Rattle.claxon_report.specs.declared.place.Damage.TheVariants.{
   Beyond,
   BitDepth,
   BlockingStrategy,
@@ -72,9 +72,9 @@ use Rattle.claxon_places.specs.declared.place.Damage.TheVariants.{
   SampleRate,
   WideSample,
 }
-use Rattle.claxon_places.specs.declared.place.Place.{Place}
-use Rattle.claxon_places.specs.declared.place.Gap.{Gap}
-use Rattle.claxon_verify.specs.declared.report.Report.{Report}
+use Rattle.claxon_report.specs.declared.place.Place.{Place}
+use Rattle.claxon_report.specs.declared.place.Gap.{Gap}
+use Rattle.claxon_report.specs.declared.report.Report.{Report}
 use Rattle.claxon_heads.specs.declared.head.UnsupportedBlock.{UnsupportedBlock}
 use Rattle.claxon_heads.specs.declared.head.UnsupportedBlock.TheVariants.{
   BytesLeft,
@@ -85,8 +85,8 @@ use Rattle.claxon_heads.specs.declared.head.UnsupportedBlock.TheVariants.{
   NotUtf8,
   SecondComments,
 }
-use Rattle.claxon_verify.specs.declared.report.Trailing.{Trailing}
-use Rattle.claxon_verify.specs.declared.report.Trailing.TheVariants.{
+use Rattle.claxon_report.specs.declared.report.Trailing.{Trailing}
+use Rattle.claxon_report.specs.declared.report.Trailing.TheVariants.{
   Ape,
   Id3v1,
   Other,

@@ -7,8 +7,7 @@ use claxon::Error;
 use claxon_blocks::md5_verdict::Md5Verdict;
 use claxon_command_line::json::push_json_string;
 use claxon_command_line::text::md5_text;
-use claxon_places::Place;
-use claxon_verify::report::Report;
+use claxon_report::{Place, Report};
 use std::alloc::{AllocError, Global};
 
 /// The object of a file with a report, and a line feed.

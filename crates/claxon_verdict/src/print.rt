@@ -10,8 +10,7 @@ use claxon::Error;
 use claxon_blocks::md5_verdict::Md5Verdict;
 use claxon_command_line::input::STANDARD;
 use claxon_command_line::messages::{Part, line, print_error, print_message, shown_name};
-use claxon_places::Damage;
-use claxon_verify::report::Report;
+use claxon_report::{Damage, Report};
 use std::alloc::{AllocError, Global};
 use std::io::{ErrorKind, Write};
 

@@ -27,8 +27,8 @@ use claxon_blocks::frames::{FrameError, UNSUPPORTED_32_BIT};
 use claxon_blocks::md5_verdict::Md5Verdict;
 use claxon_command_line::messages::{Part, error_text};
 use claxon_command_line::text::count_text;
-use claxon_places::{Damage, Gap, Place, Places};
-use claxon_verify::report::{BlockSizes, Found, Report, Trailing, UnsupportedBlock};
+use claxon_heads::UnsupportedBlock;
+use claxon_report::{BlockSizes, Damage, Found, Gap, Place, Places, Report, Trailing};
 use std::alloc::{AllocError, Global};
 
 // The decoder's text, which is that of claxon 0.4.3.

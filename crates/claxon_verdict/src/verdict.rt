@@ -19,9 +19,8 @@ use claxon::Error;
 use claxon::fault_texts::{ID3_HEADER, INVALID_SAMPLE_RATE, SIDE_TOO_WIDE};
 use claxon::metadata::StreamInfo;
 use claxon_blocks::frames::FrameError;
-use claxon_places::Damage;
-use claxon_verify::has_nothing_wrong;
-use claxon_verify::report::{Report, UnsupportedBlock};
+use claxon_heads::UnsupportedBlock;
+use claxon_report::{Damage, Report, has_nothing_wrong};
 use std::io::ErrorKind;
 
 /// What is said of a file.

@@ -6,7 +6,7 @@ use Rattle.claxon.specs.DecodedFrame.{FrameValue}
 use Rattle.claxon_verify.specs.RightStream.{frame_duration}
 use Rattle.claxon_verify.specs.Verify.{changed_size, sizes_from}
 use Rattle.claxon_verify.specs.Walk.{AreSizesOf, differing_sizes, last_size, or_else}
-use Rattle.claxon_verify.specs.declared.report.BlockSizes.{BlockSizes}
+use Rattle.claxon_report.specs.declared.report.BlockSizes.{BlockSizes}
 use Rattle.claxon_verify.specs.declared.sizes.SizesSoFar.{SizesSoFar}
 
 -- ---- one frame more

@@ -17,16 +17,16 @@ use Rattle.claxon_blocks.specs.Frames.{Is32BitFault, Says32Bits}
 use Rattle.claxon.specs.BlockInfos.{BlockInfo}
 use Rattle.claxon.specs.Error.{IsIo}
 use Rattle.claxon.specs.Errors.TheVariants.{OutOfMemory}
-use Rattle.claxon_places.specs.Places.{FoundPart, begun_scan, scan_parts, unnamed}
+use Rattle.claxon_report.specs.Places.{FoundPart, begun_scan, scan_parts, unnamed}
 use Rattle.claxon_verify.specs.RightStream.{DecodedFrames, frame_duration}
 use Rattle.claxon_verify.specs.Verify.{AreTooMany, CanBeCounted, Counted, Counts, EndsAt, FrameIs, FrameOrFault, FrameOrFaultBytes, FramesAndFaults, LastFound, PartIs, PartsFound, all_places, fault_count_of, frame_count_of, frames_of, sample_count_of}
 use Rattle.claxon_blocks.specs.Frames.{IsNotWhole}
 use Rattle.claxon_blocks.specs.declared.frames.FrameError.{FrameError}
-use Rattle.claxon_places.specs.declared.due.FoundFrame.{FoundFrame}
+use Rattle.claxon_report.specs.declared.due.FoundFrame.{FoundFrame}
 use Rattle.claxon_blocks.proofs.BlockReads.{io_not_fault}
 use Rattle.claxon_blocks.proofs.FirstBytes.{refused}
 use Rattle.claxon.proofs.DecodedFrames.{decoded_unambiguous}
-use Rattle.claxon_places.proofs.Scanning.{SameParts, fault_begun, places_same, unnamed_what}
+use Rattle.claxon_report.proofs.Scanning.{SameParts, fault_begun, places_same, unnamed_what}
 
 -- one frame or fault more
 pub parts_push : (stream : Option StreamFormat) (parts : List FrameOrFault) (part : FrameOrFault) (s m t r : List ℕ) → FramesAndFaults stream s parts m → FrameOrFaultBytes stream part t → m ≡ t ++ r → FramesAndFaults stream s (parts ++ part ∷ []) r

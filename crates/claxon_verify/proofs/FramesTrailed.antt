@@ -23,21 +23,22 @@ use Rattle.claxon_blocks.specs.FirstBytes.{AreFirst}
 use Rattle.claxon_blocks.specs.Frames.{Is32BitFault, IsNotWhole}
 use Rattle.claxon_blocks.specs.declared.frames.FrameError.{FrameError}
 use Rattle.claxon_blocks.proofs.BlockReads.{BlockIsRead, io_not_fault}
-use Rattle.claxon_places.specs.Places.{Scans, begun_or, begun_scan, places_at, scan_parts}
+use Rattle.claxon_report.specs.Places.{Scans, begun_or, begun_scan, places_at, scan_parts}
 use Rattle.claxon_verify.specs.Trailing.{AreBytes, EndsWithTail, IsLast, IsOfFault, IsOfTail, KeepsFault, KeepsFrame, KeepsIfBegun, KeepsLast, TailOf, TrailingIs, TrailingIsTold, TrailingOf, WalksToTail, scan_of}
 use Rattle.claxon_blocks.specs.Md5Verdict.{Md5IsJudged, Md5IsShown}
-use Rattle.claxon_places.specs.Kept.{AreKept, Keeps}
+use Rattle.claxon_report.specs.Kept.{AreKept, Keeps}
 use Rattle.claxon_heads.specs.StreamHead.{FoundHead}
 use Rattle.claxon_heads.specs.BytesRead.{counted_bytes, last_of, last_read, position_of}
-use Rattle.claxon_verify.specs.Verify.{Counted, Counts, Md5Is, NothingIsWrong, frames_of, report_view, sum_of}
+use Rattle.claxon_report.specs.Report.{NothingIsWrong}
+use Rattle.claxon_verify.specs.Verify.{Counted, Counts, Md5Is, frames_of, report_view, sum_of}
 use Rattle.claxon_verify.specs.Walk.{AddsFault, AddsFrame, BeginsWalk, EndsWalk}
 use Rattle.claxon_heads.specs.declared.bytes_read.BytesRead.{BytesRead}
-use Rattle.claxon_places.specs.declared.place.Damage.TheVariants.{Fault as FaultDamage}
-use Rattle.claxon_places.specs.declared.place.Place.{Place}
-use Rattle.claxon_verify.specs.declared.report.Report.{Report}
+use Rattle.claxon_report.specs.declared.place.Damage.TheVariants.{Fault as FaultDamage}
+use Rattle.claxon_report.specs.declared.place.Place.{Place}
+use Rattle.claxon_report.specs.declared.report.Report.{Report}
 use Rattle.claxon_heads.specs.declared.head.UnsupportedBlock.{UnsupportedBlock}
-use Rattle.claxon_places.specs.declared.scan.Begun.{Begun}
-use Rattle.claxon_places.specs.declared.scan.Scan.{Scan}
+use Rattle.claxon_report.specs.declared.scan.Begun.{Begun}
+use Rattle.claxon_report.specs.declared.scan.Scan.{Scan}
 use Rattle.claxon_verify.specs.declared.walk.ByteRange.{ByteRange}
 use Rattle.claxon_verify.specs.declared.walk.Walk.{Walk}
 use Rattle.claxon_verify.proofs.SyncCodes.{fault_syncs, first_is_255, frame_syncs, not_whole_syncs}

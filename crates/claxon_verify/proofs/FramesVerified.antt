@@ -13,16 +13,16 @@ use Rattle.claxon_recovery.specs.Parts.{BeginsParts, parts_position, parts_sourc
 use Rattle.claxon_recovery.specs.Runs.{AreSearched}
 use Rattle.claxon_recovery.specs.declared.parts.Parts.{Parts}
 use Rattle.claxon_verify.specs.FramesAlone.{IsOfFrames, StopsFrames}
-use Rattle.claxon_places.specs.Kept.{AreKept, Keeps}
+use Rattle.claxon_report.specs.Kept.{AreKept, Keeps}
 use Rattle.claxon_verify.specs.PartFaults.{BeginsWithTooMany, StopsWalk}
-use Rattle.claxon_places.specs.Places.{places_at}
+use Rattle.claxon_report.specs.Places.{places_at}
 use Rattle.claxon_verify.specs.RightStream.{bytes_of_frames}
 use Rattle.claxon_verify.specs.Trailing.{AreBytes, EndsWithTail, TrailingIs, TrailingOf, WalksPartsToTail, scan_of}
 use Rattle.claxon_verify.specs.VerifiedParts.{NotesOfParts, PartsCounted, WalksParts, part_frames}
 use Rattle.claxon_verify.specs.Verify.{report_view}
-use Rattle.claxon_verify.specs.declared.report.Notes.{Notes}
-use Rattle.claxon_places.specs.declared.place.Place.{Place}
-use Rattle.claxon_verify.specs.declared.report.Report.{Report}
+use Rattle.claxon_report.specs.declared.report.Notes.{Notes}
+use Rattle.claxon_report.specs.declared.place.Place.{Place}
+use Rattle.claxon_report.specs.declared.report.Report.{Report}
 use Rattle.claxon_verify.specs.declared.walk.Walk.{Walk}
 use Rattle.claxon_verify.proofs.PartsNoted.{same_notes}
 use Rattle.claxon_verify.proofs.PartsStopped.{known_unread, parts_failed, unread_is}

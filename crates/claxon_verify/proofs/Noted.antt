@@ -18,9 +18,9 @@ use Rattle.claxon_heads.specs.StreamHead.{FoundHead}
 use Rattle.claxon_heads.specs.BytesRead.{counted_bytes}
 use Rattle.claxon_verify.specs.Verify.{Counted, report_view}
 use Rattle.claxon_verify.specs.Walk.{IsCounted}
-use Rattle.claxon_verify.specs.declared.report.BlockSizes.{BlockSizes}
-use Rattle.claxon_verify.specs.declared.report.Notes.{Notes}
-use Rattle.claxon_verify.specs.declared.report.Report.{Report}
+use Rattle.claxon_report.specs.declared.report.BlockSizes.{BlockSizes}
+use Rattle.claxon_report.specs.declared.report.Notes.{Notes}
+use Rattle.claxon_report.specs.declared.report.Report.{Report}
 use Rattle.claxon_heads.specs.declared.bytes_read.BytesRead.{BytesRead}
 use Rattle.claxon_verify.specs.declared.walk.Walk.{Walk}
 use Rattle.claxon_verify.proofs.Verified.{HeadIsConsumed, counted_from, failed_since, head_code}

@@ -10,12 +10,12 @@ use Rattle.claxon_recovery.specs.declared.part.FrameThere.{FrameThere}
 use Rattle.claxon_recovery.specs.declared.part.Part.{Part}
 use Rattle.claxon_recovery.specs.declared.part.Part.TheVariants.{Frame as IsFrame, Damage as IsDamage}
 use Rattle.claxon_verify.specs.Notes.{NotesFrame, NothingNoted, bytes_between}
-use Rattle.claxon_places.specs.Places.{FoundPart, begun_scan, scan_parts}
+use Rattle.claxon_report.specs.Places.{FoundPart, begun_scan, scan_parts}
 use Rattle.claxon_verify.specs.RightStream.{frame_duration}
 use Rattle.claxon_verify.specs.VerifiedParts.{NotesDamage, NotesOfParts, ends_in_byte, is_byte_left, is_passed, part_frames, part_sizes}
-use Rattle.claxon_verify.specs.declared.report.BlockSizes.{BlockSizes}
-use Rattle.claxon_verify.specs.declared.report.Notes.{Notes}
-use Rattle.claxon_places.specs.declared.scan.Scan.{Scan}
+use Rattle.claxon_report.specs.declared.report.BlockSizes.{BlockSizes}
+use Rattle.claxon_report.specs.declared.report.Notes.{Notes}
+use Rattle.claxon_report.specs.declared.scan.Scan.{Scan}
 use Rattle.claxon_verify.specs.declared.walk.Walk.{Walk}
 use Rattle.claxon_verify.proofs.Noting.{SizesNoted, frame_noted, none_noted, not_so, sizes_kept}
 

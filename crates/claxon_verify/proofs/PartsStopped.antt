@@ -34,7 +34,7 @@ use Rattle.claxon_verify.specs.VerifiedParts.{part_frames}
 use Rattle.claxon_heads.specs.BytesRead.{counted_bytes, update_position}
 use Rattle.claxon_verify.specs.Verify.{IsTooMany}
 use Rattle.claxon_heads.specs.declared.bytes_read.BytesRead.{BytesRead}
-use Rattle.claxon_verify.specs.declared.report.Report.{Report}
+use Rattle.claxon_report.specs.declared.report.Report.{Report}
 use Rattle.claxon_verify.specs.declared.walk.Walk.{Walk}
 use Rattle.claxon_verify.proofs.PartsWalked.{PartsSoFar, answered, frames_append}
 use Rattle.claxon_verify.proofs.Verified.{HeadIsConsumed, failed_since, fault_begins, has_neither, head_code, refused, same_input}

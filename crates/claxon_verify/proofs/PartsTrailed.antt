@@ -21,21 +21,22 @@ use Rattle.claxon_recovery.specs.declared.part.Damage.{Damage}
 use Rattle.claxon_recovery.specs.declared.part.Part.{Part}
 use Rattle.claxon_recovery.specs.declared.part.Part.TheVariants.{Frame as IsFrame, Damage as IsDamage}
 use Rattle.claxon_recovery.specs.declared.parts.Parts.{Parts}
-use Rattle.claxon_places.specs.Kept.{AreKept, Keeps}
-use Rattle.claxon_places.specs.Places.{Scans, begun_scan, places_at}
+use Rattle.claxon_report.specs.Kept.{AreKept, Keeps}
+use Rattle.claxon_report.specs.Places.{Scans, begun_scan, places_at}
 use Rattle.claxon_verify.specs.RightStream.{bytes_of_frames}
 use Rattle.claxon_heads.specs.StreamHead.{FoundHead}
 use Rattle.claxon_verify.specs.Trailing.{AreBytes, EndsWithTail, IsOfTail, KeepsIfBegun, KeepsPart, PartsTrailingIsTold, TailOf, TrailingIs, TrailingOf, WalksPartsToTail, scan_of}
 use Rattle.claxon_heads.specs.BytesRead.{counted_bytes, update_position}
-use Rattle.claxon_verify.specs.Verify.{Counts, NothingIsWrong, report_view}
+use Rattle.claxon_report.specs.Report.{NothingIsWrong}
+use Rattle.claxon_verify.specs.Verify.{Counts, report_view}
 use Rattle.claxon_verify.specs.VerifiedParts.{AddsDamage, AddsPart, NotesOfParts, PartsCounted, is_byte_left, part_frames}
 use Rattle.claxon_verify.specs.Walk.{IsCounted}
 use Rattle.claxon_heads.specs.declared.bytes_read.BytesRead.{BytesRead}
-use Rattle.claxon_verify.specs.declared.report.BlockSizes.{BlockSizes}
-use Rattle.claxon_places.specs.declared.place.Place.{Place}
-use Rattle.claxon_verify.specs.declared.report.Report.{Report}
+use Rattle.claxon_report.specs.declared.report.BlockSizes.{BlockSizes}
+use Rattle.claxon_report.specs.declared.place.Place.{Place}
+use Rattle.claxon_report.specs.declared.report.Report.{Report}
 use Rattle.claxon_heads.specs.declared.head.UnsupportedBlock.{UnsupportedBlock}
-use Rattle.claxon_places.specs.declared.scan.Scan.{Scan}
+use Rattle.claxon_report.specs.declared.scan.Scan.{Scan}
 use Rattle.claxon_verify.specs.declared.walk.Walk.{Walk}
 use Rattle.claxon_verify.proofs.PartsVerified.{parts_verified}
 use Rattle.claxon_verify.proofs.PartsWalked.{PartsSoFar, walked, with_end}

@@ -18,18 +18,19 @@ use Rattle.claxon_recovery.specs.Parts.{BeginsParts, SourceIsKnown, parts_positi
 use Rattle.claxon_recovery.specs.Runs.{AreSearched}
 use Rattle.claxon_recovery.specs.Window.{bytes_left}
 use Rattle.claxon_recovery.specs.declared.parts.Parts.{Parts}
-use Rattle.claxon_places.specs.Kept.{AreKept, Keeps}
+use Rattle.claxon_report.specs.Kept.{AreKept, Keeps}
 use Rattle.claxon_verify.specs.VerifiedParts.{NotesOfParts, PartsCounted, PartsReportIsSound, WalksParts, part_frames}
-use Rattle.claxon_places.specs.Places.{places_at}
+use Rattle.claxon_report.specs.Places.{places_at}
 use Rattle.claxon_heads.specs.StreamHead.{FoundHead}
 use Rattle.claxon_verify.specs.RightStream.{bytes_of_frames}
 use Rattle.claxon_heads.specs.BytesRead.{counted_bytes, update_position}
-use Rattle.claxon_verify.specs.Verify.{Counts, IsRight, Md5Is, NothingIsWrong, report_view, sum_of}
+use Rattle.claxon_report.specs.Report.{NothingIsWrong}
+use Rattle.claxon_verify.specs.Verify.{Counts, IsRight, Md5Is, report_view, sum_of}
 use Rattle.claxon_verify.specs.Walk.{IsCounted}
-use Rattle.claxon_verify.specs.declared.report.BlockSizes.{BlockSizes}
-use Rattle.claxon_verify.specs.declared.report.Notes.{Notes}
-use Rattle.claxon_places.specs.declared.place.Place.{Place}
-use Rattle.claxon_verify.specs.declared.report.Report.{Report}
+use Rattle.claxon_report.specs.declared.report.BlockSizes.{BlockSizes}
+use Rattle.claxon_report.specs.declared.report.Notes.{Notes}
+use Rattle.claxon_report.specs.declared.place.Place.{Place}
+use Rattle.claxon_report.specs.declared.report.Report.{Report}
 use Rattle.claxon_heads.specs.declared.head.UnsupportedBlock.{UnsupportedBlock}
 use Rattle.claxon_heads.specs.declared.bytes_read.BytesRead.{BytesRead}
 use Rattle.claxon_verify.specs.declared.walk.Walk.{Walk}

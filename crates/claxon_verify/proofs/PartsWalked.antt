@@ -17,16 +17,16 @@ use Rattle.claxon_recovery.specs.declared.part.FrameThere.{FrameThere}
 use Rattle.claxon_recovery.specs.declared.part.Part.{Part}
 use Rattle.claxon_recovery.specs.declared.part.Part.TheVariants.{Frame as IsFrame, Damage as IsDamage}
 use Rattle.claxon_recovery.specs.declared.parts.Parts.{Parts}
-use Rattle.claxon_places.specs.Kept.{AreKept, Keeps}
+use Rattle.claxon_report.specs.Kept.{AreKept, Keeps}
 use Rattle.claxon_verify.specs.Notes.{NotesFrame, NothingNoted}
 use Rattle.claxon_verify.specs.PartFaults.{AnsweredUpTo}
 use Rattle.claxon_verify.specs.VerifiedParts.{AddsDamage, AddsPart, FoundAre, FoundOf, NotesDamage, WalksParts, is_byte_left, part_frames}
-use Rattle.claxon_places.specs.Places.{FoundPart, Scans, begun_scan, list_of, places_at, scan_frame, scan_more, scan_part, scan_parts}
+use Rattle.claxon_report.specs.Places.{FoundPart, Scans, begun_scan, list_of, places_at, scan_frame, scan_more, scan_part, scan_parts}
 use Rattle.claxon_verify.specs.RightStream.{bytes_of_frames, frame_duration}
 use Rattle.claxon_verify.specs.Walk.{AddsFrame, AreSizesOf, BeginsWalk}
-use Rattle.claxon_places.specs.declared.places.KeptPlaces.{KeptPlaces}
-use Rattle.claxon_places.specs.declared.place.Place.{Place}
-use Rattle.claxon_places.specs.declared.scan.Scan.{Scan}
+use Rattle.claxon_report.specs.declared.places.KeptPlaces.{KeptPlaces}
+use Rattle.claxon_report.specs.declared.place.Place.{Place}
+use Rattle.claxon_report.specs.declared.scan.Scan.{Scan}
 use Rattle.claxon_verify.specs.declared.walk.Walk.{Walk}
 use Rattle.claxon_verify.proofs.BlockSizes.{changed_of}
 use Rattle.claxon_verify.proofs.PartsNoted.{PartsNoted, damage_so_far, frame_part_so_far, nothing_of_parts, parts_noted}

@@ -10,18 +10,18 @@ use Rattle.claxon.specs.DecodedFrame.{FrameValue}
 use Rattle.claxon.specs.Frame.{StreamFormat}
 use Rattle.claxon.specs.Streaminfo.{Streaminfo}
 use Rattle.claxon_blocks.specs.declared.frames.FrameError.{FrameError}
-use Rattle.claxon_places.specs.Places.{FoundPart, Scans, begun_scan, damaged, due_after, ended_place, ends_place, fills, filled, first_sample, goes_on_after, has_strategy, is_beyond, judged, last_place, list_of, missing_place, not_ended, other_stream, places_at, places_of, rate_or, returned, returns, scan_more, scan_part, scan_parts, with_scanned}
+use Rattle.claxon_report.specs.Places.{FoundPart, Scans, begun_scan, damaged, due_after, ended_place, ends_place, fills, filled, first_sample, goes_on_after, has_strategy, is_beyond, judged, last_place, list_of, missing_place, not_ended, other_stream, places_at, places_of, rate_or, returned, returns, scan_more, scan_part, scan_parts, with_scanned}
 use Rattle.claxon_verify.specs.RightStream.{AreNextAfter, HasStrategy, IsNextAfter, frame_duration, number_after, number_of, strategy_after}
 use Rattle.claxon_verify.specs.Verify.{FrameIs, FrameOrFault, PartIs, PartsFound, fault_count_of, frame_count_of, frames_of, sample_count_of}
-use Rattle.claxon_places.specs.declared.due.Due.{Due}
-use Rattle.claxon_places.specs.declared.due.FoundFrame.{FoundFrame}
-use Rattle.claxon_places.specs.declared.place.Damage.{Damage}
-use Rattle.claxon_places.specs.declared.place.Damage.TheVariants.{Repeated}
-use Rattle.claxon_places.specs.declared.place.Place.{Place}
-use Rattle.claxon_places.specs.declared.scan.Begun.{Begun}
-use Rattle.claxon_places.specs.declared.scan.Ended.{Ended}
-use Rattle.claxon_places.specs.declared.scan.Scan.{Scan}
-use Rattle.claxon_places.specs.declared.scan.Scanned.{Scanned}
+use Rattle.claxon_report.specs.declared.due.Due.{Due}
+use Rattle.claxon_report.specs.declared.due.FoundFrame.{FoundFrame}
+use Rattle.claxon_report.specs.declared.place.Damage.{Damage}
+use Rattle.claxon_report.specs.declared.place.Damage.TheVariants.{Repeated}
+use Rattle.claxon_report.specs.declared.place.Place.{Place}
+use Rattle.claxon_report.specs.declared.scan.Begun.{Begun}
+use Rattle.claxon_report.specs.declared.scan.Ended.{Ended}
+use Rattle.claxon_report.specs.declared.scan.Scan.{Scan}
+use Rattle.claxon_report.specs.declared.scan.Scanned.{Scanned}
 
 not_less : (a b : ℕ) → b ≤ a → nat_lt a b ≡ false
 not_less a b most = grind arith
@@ -398,7 +398,7 @@ module _ (stream : Option StreamFormat) (info : Streaminfo) where
       ∙ ap (λ (o : Option Place). list_of o ++ list_of (last_place end info.samples scans.scan.due scans.scan.begun)) ended
       ∙ ap list_of none
     where
-      enough_last : (end : ℕ) (due : Due) (b : Bool) → b ≡ false → (if b then Some (Rattle.claxon_places.specs.Places.missing_at_end end due.sample info.samples) else None) ≡ None
+      enough_last : (end : ℕ) (due : Due) (b : Bool) → b ≡ false → (if b then Some (Rattle.claxon_report.specs.Places.missing_at_end end due.sample info.samples) else None) ≡ None
       enough_last end due b e = rw e refl
 
   -- a stream without a place is right
@@ -412,7 +412,7 @@ module _ (stream : Option StreamFormat) (info : Streaminfo) where
       let scans = scan_parts info (record { scan = begun_scan; places = [] }) found in
       let all = subst (λ (z : List FoundPart). places_of info end (found ++ z) ≡ []) cut.2 e in
       let clean = places_clean end _ all in
-      let pushed = subst IsClean (Rattle.claxon_places.proofs.Scanning.scan_push info (record { scan = begun_scan; places = [] }) found cut.0) clean in
+      let pushed = subst IsClean (Rattle.claxon_report.proofs.Scanning.scan_push info (record { scan = begun_scan; places = [] }) found cut.0) clean in
       let damaged = subst (λ (w : Result FoundFrame FrameError). IsClean (with_scanned scans.places (scan_part info scans.scan cut.0.start w))) cut.4 pushed in
       absurd (some_none _ damaged.begun)
 

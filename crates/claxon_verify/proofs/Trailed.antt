@@ -5,17 +5,17 @@ use Rattle.std.proofs.lemmas.List.{drop_at, take_at}
 use Rattle.std.proofs.lemmas.List.Elements.{All-drop, All-take}
 use Rattle.claxon.specs.Streaminfo.{Streaminfo}
 use Rattle.claxon_blocks.specs.declared.frames.FrameError.{FrameError}
-use Rattle.claxon_places.specs.Places.{begun_or, fills, goes_on, goes_on_after, judged, other_stream, returns, scan_frame, scan_part}
+use Rattle.claxon_report.specs.Places.{begun_or, fills, goes_on, goes_on_after, judged, other_stream, returns, scan_frame, scan_part}
 use Rattle.claxon_verify.specs.Trailing.{AreBytes, EndsWithTail, IsOfTail, KeepsIfBegun, KeepsLast, KeepsMore, TailOf, TrailingIs, TrailingOf}
-use Rattle.claxon_places.specs.declared.due.Due.{Due}
-use Rattle.claxon_places.specs.declared.due.FoundFrame.{FoundFrame}
-use Rattle.claxon_places.specs.declared.place.Damage.{Damage}
-use Rattle.claxon_places.specs.declared.place.Damage.TheVariants.{Fault, Repeated}
-use Rattle.claxon_places.specs.declared.scan.Begun.{Begun}
-use Rattle.claxon_places.specs.declared.scan.Ended.{Ended}
-use Rattle.claxon_places.specs.declared.scan.Scan.{Scan}
-use Rattle.claxon_places.specs.declared.scan.Scanned.{Scanned}
-use Rattle.claxon_verify.specs.declared.report.Trailing.{Trailing}
+use Rattle.claxon_report.specs.declared.due.Due.{Due}
+use Rattle.claxon_report.specs.declared.due.FoundFrame.{FoundFrame}
+use Rattle.claxon_report.specs.declared.place.Damage.{Damage}
+use Rattle.claxon_report.specs.declared.place.Damage.TheVariants.{Fault, Repeated}
+use Rattle.claxon_report.specs.declared.scan.Begun.{Begun}
+use Rattle.claxon_report.specs.declared.scan.Ended.{Ended}
+use Rattle.claxon_report.specs.declared.scan.Scan.{Scan}
+use Rattle.claxon_report.specs.declared.scan.Scanned.{Scanned}
+use Rattle.claxon_report.specs.declared.report.Trailing.{Trailing}
 use Rattle.claxon_verify.specs.declared.trailing.BytesAfter.{BytesAfter}
 use Rattle.claxon_verify.specs.declared.walk.ByteRange.{ByteRange}
 use Rattle.claxon_verify.specs.declared.walk.Walk.{Walk}

@@ -30,18 +30,19 @@ use Rattle.claxon.proofs.OutOfMemory.{not_out_of_memory, same_out_of_memory}
 use Rattle.claxon.specs.RunningReader.{running_inner}
 use Rattle.claxon.specs.RunningReaders.{RunningReader}
 use Rattle.claxon_md5.specs.declared.Md5.{Md5}
-use Rattle.claxon_places.specs.Kept.{AreKept, Keeps}
-use Rattle.claxon_places.specs.Places.{FoundPart, list_of, places_at, unnamed}
+use Rattle.claxon_report.specs.Kept.{AreKept, Keeps}
+use Rattle.claxon_report.specs.Places.{FoundPart, list_of, places_at, unnamed}
 use Rattle.claxon_verify.specs.RightStream.{AreInOrder, AreNextAfter, DecodedFrames, FitsBitDepth, HasMd5, IsRightStream, bytes_of_frames, frame_duration}
 use Rattle.claxon_heads.specs.BytesRead.{counted_bytes}
-use Rattle.claxon_verify.specs.Verify.{AreTooMany, CanBeCounted, Counted, Counts, EndsAt, FrameOrFault, FramesAndFaults, HasFramesAndFaults, IsRight, IsTooMany, IsVerified, LastFound, Md5Is, NothingIsWrong, PartsFound, PlacesAreCounted, ReportValue, RightIsComplete, RightIsSound, SamePlaces, SameReport, StopsCounting, VerifyIsComplete, VerifyIsSound, VerifyPromises, all_places, changed_size, fault_count_of, frame_count_of, frames_of, report_view, sample_count_of, sum_of}
+use Rattle.claxon_report.specs.Report.{NothingIsWrong}
+use Rattle.claxon_verify.specs.Verify.{AreTooMany, CanBeCounted, Counted, Counts, EndsAt, FrameOrFault, FramesAndFaults, HasFramesAndFaults, IsRight, IsTooMany, IsVerified, LastFound, Md5Is, PartsFound, PlacesAreCounted, ReportValue, RightIsComplete, RightIsSound, SamePlaces, SameReport, StopsCounting, VerifyIsComplete, VerifyIsSound, VerifyPromises, all_places, changed_size, fault_count_of, frame_count_of, frames_of, report_view, sample_count_of, sum_of}
 use Rattle.claxon_verify.specs.Walk.{IsCounted, WalksToEnd}
 use Rattle.claxon_blocks.specs.Md5Verdict.{HasHashedBytes, IsMd5Verdict, Md5IsJudged, Md5IsShown, no_md5}
 use Rattle.claxon_blocks.specs.declared.md5_verdict.Md5Verdict.{Md5Verdict}
 use Rattle.claxon_blocks.specs.declared.md5_verdict.Md5Verdict.TheVariants.{Missing, NotComputed, Right, Wrong}
-use Rattle.claxon_places.specs.declared.due.FoundFrame.{FoundFrame}
-use Rattle.claxon_places.specs.declared.place.Place.{Place}
-use Rattle.claxon_verify.specs.declared.report.Report.{Report}
+use Rattle.claxon_report.specs.declared.due.FoundFrame.{FoundFrame}
+use Rattle.claxon_report.specs.declared.place.Place.{Place}
+use Rattle.claxon_report.specs.declared.report.Report.{Report}
 use Rattle.claxon_heads.specs.declared.bytes_read.BytesRead.{BytesRead}
 use Rattle.claxon_verify.specs.declared.walk.Walk.{Walk}
 use Rattle.claxon_heads.specs.StreamHead.{FoundHead, FoundHeadCode, FoundHeadFault, HeadNeedsMemory, OutOfMemoryOnlyWhere, found_head_at, found_head_view}

@@ -27,8 +27,8 @@ use Rattle.claxon_md5.specs.WholeBytes.{whole_bytes_of_samples}
 use Rattle.claxon_md5.specs.declared.Md5.{Md5}
 use Rattle.claxon_blocks.specs.Frames.{HasHeader, Is32BitFault}
 use Rattle.claxon_verify.specs.RightStream.{bytes_of_frames, frame_duration, samples_of_frames}
-use Rattle.claxon_places.specs.Kept.{AreKept, Keeps}
-use Rattle.claxon_places.specs.Places.{FoundPart, Scans, begun_scan, damaged, list_of, places_at, scan_frame, scan_more, scan_parts}
+use Rattle.claxon_report.specs.Kept.{AreKept, Keeps}
+use Rattle.claxon_report.specs.Places.{FoundPart, Scans, begun_scan, damaged, list_of, places_at, scan_frame, scan_more, scan_parts}
 use Rattle.claxon_heads.specs.BytesRead.{counted_bytes, position_of}
 use Rattle.claxon_verify.specs.Verify.{CanBeCounted, FrameOrFault, FrameOrFaultBytes, FramesAndFaults, IsTooMany, PartsFound, StopsCounting, fault_count_of, frame_count_of, frames_of, sample_count_of}
 use Rattle.claxon_blocks.specs.Frames.{IsNotWhole}
@@ -37,10 +37,10 @@ use Rattle.claxon_verify.specs.Walk.{AddsFault, AddsFrame, AreSizesOf, BeginsWal
 use Rattle.claxon_blocks.specs.HashBlock.{HashesToo}
 use Rattle.claxon_blocks.specs.Md5Verdict.{HasHashedBytes}
 use Rattle.claxon_blocks.specs.declared.frames.FrameError.{FrameError}
-use Rattle.claxon_places.specs.declared.places.KeptPlaces.{KeptPlaces}
-use Rattle.claxon_places.specs.declared.place.Damage.TheVariants.{Fault as FaultDamage}
-use Rattle.claxon_places.specs.declared.place.Place.{Place}
-use Rattle.claxon_places.specs.declared.scan.Scan.{Scan}
+use Rattle.claxon_report.specs.declared.places.KeptPlaces.{KeptPlaces}
+use Rattle.claxon_report.specs.declared.place.Damage.TheVariants.{Fault as FaultDamage}
+use Rattle.claxon_report.specs.declared.place.Place.{Place}
+use Rattle.claxon_report.specs.declared.scan.Scan.{Scan}
 use Rattle.claxon_heads.specs.declared.bytes_read.BytesRead.{BytesRead}
 use Rattle.claxon_verify.specs.declared.sizes.SizesSoFar.{SizesSoFar}
 use Rattle.claxon_verify.specs.declared.walk.Walk.{Walk}
@@ -49,7 +49,7 @@ use Rattle.claxon_heads.proofs.Positions.{position_after}
 use Rattle.claxon_verify.proofs.BlockSizes.{changed_of}
 use Rattle.claxon_verify.proofs.FramesAndFaults.{found_push, parts_front, parts_push}
 use Rattle.claxon_verify.proofs.Noting.{NotedSoFar, fault_so_far, frame_so_far, not_so, nothing_so_far, one_left}
-use Rattle.claxon_places.proofs.Scanning.{scan_push}
+use Rattle.claxon_report.proofs.Scanning.{scan_push}
 
 -- ---- the frames among all
 

@@ -13,8 +13,8 @@ use Rattle.claxon_verify.specs.PartFaults.{BeginsWithTooMany}
 use Rattle.claxon_verify.specs.Trailing.{AreBytes, TrailingIs, scan_of}
 use Rattle.claxon_verify.specs.VerifiedParts.{NotesOfParts, PartsCounted}
 use Rattle.claxon_verify.specs.Verify.{IsTooMany, ReportValue, report_view}
-use Rattle.claxon_verify.specs.declared.report.Notes.{Notes}
-use Rattle.claxon_verify.specs.declared.report.Report.{Report}
+use Rattle.claxon_report.specs.declared.report.Notes.{Notes}
+use Rattle.claxon_report.specs.declared.report.Report.{Report}
 
 -- the streaminfo of frames whose number isn't known
 abbrev pub without_samples : StreamInfo → StreamInfo

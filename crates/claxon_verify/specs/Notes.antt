@@ -40,7 +40,7 @@ use Rattle.claxon.specs.Gives.{ReadFailedIn}
 use Rattle.claxon.specs.State.{State, RemainingIsKnown}
 use Rattle.claxon.specs.Streaminfo.{Streaminfo}
 use Rattle.claxon.specs.Streams.{duration_of, stream_of}
-use Rattle.claxon_places.specs.Places.{FoundPart, begun_scan, scan_parts}
+use Rattle.claxon_report.specs.Places.{FoundPart, begun_scan, scan_parts}
 use Rattle.claxon_verify.specs.RightStream.{frame_duration}
 use Rattle.claxon_heads.specs.StreamHead.{FoundHead, FoundHeadCode}
 use Rattle.claxon_verify.specs.Verify.{
@@ -52,8 +52,8 @@ use Rattle.claxon_verify.specs.Verify.{
   report_view,
 }
 use Rattle.claxon_verify.specs.Walk.{IsCounted, IsFailedRead}
-use Rattle.claxon_verify.specs.declared.report.Notes.{Notes}
-use Rattle.claxon_verify.specs.declared.report.Report.{Report}
+use Rattle.claxon_report.specs.declared.report.Notes.{Notes}
+use Rattle.claxon_report.specs.declared.report.Report.{Report}
 use Rattle.claxon_verify.specs.declared.walk.Walk.{Walk}
 
 -- ---- block sizes (RFC 9639, sections 8.2 and 9.1)

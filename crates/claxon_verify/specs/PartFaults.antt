@@ -37,7 +37,7 @@ use Rattle.claxon_heads.specs.StreamHead.{
 use Rattle.claxon_verify.specs.VerifiedParts.{part_frames}
 use Rattle.claxon_verify.specs.Verify.{IsTooMany}
 use Rattle.claxon_verify.specs.Walk.{ExceedsCount}
-use Rattle.claxon_verify.specs.declared.report.Report.{Report}
+use Rattle.claxon_report.specs.declared.report.Report.{Report}
 use Rattle.claxon_verify.specs.declared.walk.Walk.{Walk}
 
 -- ---- parts that a stream begins with

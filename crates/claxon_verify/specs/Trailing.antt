@@ -25,7 +25,7 @@ use Rattle.claxon_recovery.specs.declared.part.Part.TheVariants.{
 }
 use Rattle.claxon_recovery.specs.declared.parts.Parts.{Parts}
 use Rattle.claxon_verify.specs.Notes.{bytes_between}
-use Rattle.claxon_places.specs.Places.{FoundPart, begun_scan, scan_parts}
+use Rattle.claxon_report.specs.Places.{FoundPart, begun_scan, scan_parts}
 use Rattle.claxon_verify.specs.RightStream.{bytes_of_frames}
 use Rattle.claxon_verify.specs.Verify.{Counted, Counts, IsVerified, frames_of, report_view}
 use Rattle.claxon_verify.specs.VerifiedParts.{
@@ -35,9 +35,9 @@ use Rattle.claxon_verify.specs.VerifiedParts.{
   part_frames,
 }
 use Rattle.claxon_verify.specs.Walk.{IsCounted, IsFailedRead}
-use Rattle.claxon_places.specs.declared.due.Due.{Due}
-use Rattle.claxon_places.specs.declared.place.Damage.{Damage}
-use Rattle.claxon_places.specs.declared.place.Damage.TheVariants.{
+use Rattle.claxon_report.specs.declared.due.Due.{Due}
+use Rattle.claxon_report.specs.declared.place.Damage.{Damage}
+use Rattle.claxon_report.specs.declared.place.Damage.TheVariants.{
   Beyond,
   BitDepth,
   BlockingStrategy,
@@ -49,17 +49,17 @@ use Rattle.claxon_places.specs.declared.place.Damage.TheVariants.{
   SampleRate,
   WideSample,
 }
-use Rattle.claxon_verify.specs.declared.report.Report.{Report}
-use Rattle.claxon_verify.specs.declared.report.Trailing.{Trailing}
-use Rattle.claxon_verify.specs.declared.report.Trailing.TheVariants.{
+use Rattle.claxon_report.specs.declared.report.Report.{Report}
+use Rattle.claxon_report.specs.declared.report.Trailing.{Trailing}
+use Rattle.claxon_report.specs.declared.report.Trailing.TheVariants.{
   Ape,
   Id3v1,
   Other,
   SecondStream,
   Zeros,
 }
-use Rattle.claxon_places.specs.declared.scan.Begun.{Begun}
-use Rattle.claxon_places.specs.declared.scan.Scan.{Scan}
+use Rattle.claxon_report.specs.declared.scan.Begun.{Begun}
+use Rattle.claxon_report.specs.declared.scan.Scan.{Scan}
 use Rattle.claxon_verify.specs.declared.trailing.BytesAfter.{BytesAfter}
 use Rattle.claxon_verify.specs.declared.walk.ByteRange.{ByteRange}
 use Rattle.claxon_verify.specs.declared.walk.Walk.{Walk}

@@ -30,7 +30,7 @@ use Rattle.claxon_recovery.specs.declared.part.Part.TheVariants.{
   Damage as IsDamage,
 }
 use Rattle.claxon_recovery.specs.declared.parts.Parts.{Parts}
-use Rattle.claxon_places.specs.Kept.{AreKept, KeepsPlaces}
+use Rattle.claxon_report.specs.Kept.{AreKept, KeepsPlaces}
 use Rattle.claxon_verify.specs.Notes.{
   NoneGoesOn,
   NotesFrame,
@@ -38,7 +38,7 @@ use Rattle.claxon_verify.specs.Notes.{
   other_block_size,
   other_frame_size,
 }
-use Rattle.claxon_places.specs.Places.{FoundPart, list_of, places_of, scan_part}
+use Rattle.claxon_report.specs.Places.{FoundPart, list_of, places_of, scan_part}
 use Rattle.claxon_verify.specs.RightStream.{bytes_of_frames, frame_duration}
 use Rattle.claxon_heads.specs.StreamHead.{FoundHead, FoundHeadCode}
 use Rattle.claxon_verify.specs.Verify.{
@@ -52,9 +52,9 @@ use Rattle.claxon_verify.specs.Verify.{
   sum_of,
 }
 use Rattle.claxon_verify.specs.Walk.{AddsFrame, IsCounted, IsFailedRead}
-use Rattle.claxon_places.specs.declared.due.FoundFrame.{FoundFrame}
-use Rattle.claxon_verify.specs.declared.report.Notes.{Notes}
-use Rattle.claxon_verify.specs.declared.report.Report.{Report}
+use Rattle.claxon_report.specs.declared.due.FoundFrame.{FoundFrame}
+use Rattle.claxon_report.specs.declared.report.Notes.{Notes}
+use Rattle.claxon_report.specs.declared.report.Report.{Report}
 use Rattle.claxon_verify.specs.declared.walk.Walk.{Walk}
 
 -- ---- what is found

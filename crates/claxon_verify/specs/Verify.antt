@@ -23,8 +23,8 @@ use Rattle.claxon_verify.specs.RightStream.{
   bytes_of_frames,
   frame_duration,
 }
-use Rattle.claxon_places.specs.Kept.{AreKept}
-use Rattle.claxon_places.specs.Places.{FoundPart, list_of, places_of, unnamed}
+use Rattle.claxon_report.specs.Kept.{AreKept}
+use Rattle.claxon_report.specs.Places.{FoundPart, list_of, places_of, unnamed}
 use Rattle.claxon_heads.specs.StreamHead.{
   FoundHead,
   FoundHeadCode,
@@ -32,16 +32,16 @@ use Rattle.claxon_heads.specs.StreamHead.{
   HeadNeedsMemory,
 }
 use Rattle.claxon_blocks.specs.declared.frames.FrameError.{FrameError}
-use Rattle.claxon_places.specs.declared.due.FoundFrame.{FoundFrame}
+use Rattle.claxon_report.specs.declared.due.FoundFrame.{FoundFrame}
 use Rattle.claxon_command_line.specs.declared.progress.Progress.{Progress}
-use Rattle.claxon_verify.specs.declared.report.BlockSizes.{BlockSizes}
-use Rattle.claxon_verify.specs.declared.report.Found.{Found}
+use Rattle.claxon_report.specs.declared.report.BlockSizes.{BlockSizes}
+use Rattle.claxon_report.specs.declared.report.Found.{Found}
 use Rattle.claxon_md5.specs.Md5.{md5}
 use Rattle.claxon_blocks.specs.declared.md5_verdict.Md5Verdict.{Md5Verdict}
 use Rattle.claxon_blocks.specs.declared.md5_verdict.Md5Verdict.TheVariants.{NotComputed, Wrong}
-use Rattle.claxon_places.specs.declared.place.Place.{Place}
-use Rattle.claxon_places.specs.declared.place.Places.{Places}
-use Rattle.claxon_verify.specs.declared.report.Report.{Report}
+use Rattle.claxon_report.specs.declared.place.Place.{Place}
+use Rattle.claxon_report.specs.declared.place.Places.{Places}
+use Rattle.claxon_report.specs.declared.report.Report.{Report}
 use Rattle.claxon_heads.specs.declared.head.UnsupportedBlock.{UnsupportedBlock}
 
 -- ---- frames and faults
@@ -237,13 +237,6 @@ report_view report = record {
   sum = report.computed_md5;
   is_right = report.is_right;
 }
-
--- There is no place, there are as many samples as expected, where 0 isn't, and the MD5 sum isn't
--- another one.
-abbrev pub NothingIsWrong : {A : Type 0} → Found A → ℕ → Md5Verdict → Type 0
-NothingIsWrong found expected verdict =
-    (found.places.first ≡ None) × ((expected ≡ 0) ⊎ (expected ≡ found.samples))
-    × (verdict ≢ Wrong)
 
 -- A stream is right where all of its metadata is supported, there is no place, there are as many
 -- samples as the streaminfo says, where it doesn't say 0, and the MD5 sum isn't another one.

@@ -15,8 +15,8 @@ use Rattle.claxon.specs.State.{State, RemainingIsKnown}
 use Rattle.claxon.specs.Streams.{duration_of}
 use Rattle.claxon_blocks.specs.HashBlock.{HashesToo}
 use Rattle.claxon_blocks.specs.Md5Verdict.{HasHashedBytes}
-use Rattle.claxon_places.specs.Kept.{AreKept, Keeps, KeepsPlaces}
-use Rattle.claxon_places.specs.Places.{begun_scan, damaged, list_of, places_at, scan_frame}
+use Rattle.claxon_report.specs.Kept.{AreKept, Keeps, KeepsPlaces}
+use Rattle.claxon_report.specs.Places.{begun_scan, damaged, list_of, places_at, scan_frame}
 use Rattle.claxon_verify.specs.RightStream.{bytes_of_frames, frame_duration}
 use Rattle.claxon_verify.specs.Verify.{
   Counted,
@@ -27,10 +27,10 @@ use Rattle.claxon_verify.specs.Verify.{
   frames_of,
 }
 use Rattle.claxon_blocks.specs.declared.frames.FrameError.{FrameError}
-use Rattle.claxon_places.specs.declared.due.FoundFrame.{FoundFrame}
-use Rattle.claxon_verify.specs.declared.report.BlockSizes.{BlockSizes}
-use Rattle.claxon_places.specs.declared.place.Damage.TheVariants.{Fault}
-use Rattle.claxon_places.specs.declared.place.Place.{Place}
+use Rattle.claxon_report.specs.declared.due.FoundFrame.{FoundFrame}
+use Rattle.claxon_report.specs.declared.report.BlockSizes.{BlockSizes}
+use Rattle.claxon_report.specs.declared.place.Damage.TheVariants.{Fault}
+use Rattle.claxon_report.specs.declared.place.Place.{Place}
 use Rattle.claxon_verify.specs.declared.sizes.SizesSoFar.{SizesSoFar}
 use Rattle.claxon_verify.specs.declared.walk.Walk.{Walk}
 

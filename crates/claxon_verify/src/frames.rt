@@ -9,13 +9,13 @@ ghost use Rattle.claxon_verify.specs.FramesAlone.{
 ghost use Rattle.claxon_verify.specs.Verify.{KeepsAtMost, VerifyIsQuiet};
 
 use crate::parts::walk_parts;
-use crate::report::Report;
 use crate::report_of;
 use claxon::Result;
 use claxon::input::ReadBytes;
 use claxon::metadata::StreamInfo;
 use claxon_command_line::progress::Progress;
 use claxon_recovery::Parts;
+use claxon_report::Report;
 use std::alloc::Global;
 use std::io::Write;
 

@@ -7,14 +7,14 @@ ghost use Rattle.claxon.specs.FrameReader.{stream_with};
 ghost use Rattle.claxon.specs.MetadataBlock.{info_view, or_zero};
 ghost use Rattle.claxon.specs.State.{bytes_in};
 ghost use Rattle.claxon_command_line.specs.Progress.{StaysQuiet};
-ghost use Rattle.claxon_places.specs.Kept.{AreKept, Keeps};
+ghost use Rattle.claxon_report.specs.Kept.{AreKept, Keeps};
 ghost use Rattle.claxon_verify.specs.Notes.{NotesAreExact, WalkIsNoted};
-ghost use Rattle.claxon_places.specs.Places.{places_at};
+ghost use Rattle.claxon_report.specs.Places.{places_at};
+ghost use Rattle.claxon_report.specs.Report.{NothingIsWrong};
 ghost use Rattle.claxon_verify.specs.Trailing.{TrailingIsTold, TrailingOf, WalksToTail};
 ghost use Rattle.claxon_heads.specs.BytesRead.{counted_bytes, position_of};
 ghost use Rattle.claxon_verify.specs.Verify.{
   KeepsAtMost,
-  NothingIsWrong,
   PlacesAreCounted,
   RightIsComplete,
   RightIsSound,
@@ -29,9 +29,8 @@ ghost use Rattle.claxon_verify.specs.Verify.{
 };
 ghost use Rattle.claxon_blocks.specs.Md5Verdict.{Md5IsJudged, Md5IsShown};
 ghost use Rattle.claxon_verify.specs.Walk.{WalksToEnd};
-ghost use Rattle.claxon_places.specs.declared.place.Place.{Place};
+ghost use Rattle.claxon_report.specs.declared.place.Place.{Place};
 
-use crate::report::{Found, Notes, Report, UnsupportedBlock};
 use claxon::input::ReadBytes;
 use claxon::metadata::StreamInfo;
 use claxon::running::RunningReader;
@@ -39,15 +38,15 @@ use claxon::{Error, Result};
 use claxon_blocks::frames::read_frame;
 use claxon_blocks::md5_verdict::{Md5Verdict, computed_md5, judge_md5};
 use claxon_command_line::progress::Progress;
-use claxon_heads::{BytesRead, read_head};
+use claxon_heads::{BytesRead, UnsupportedBlock, read_head};
 use claxon_md5::Md5;
+use claxon_report::{Found, Notes, Report, has_nothing_wrong};
 use std::alloc::Allocator;
 use std::io::Write;
 use walk::{ByteRange, Walk, at_end, too_many, trailing, with_fault, with_frame};
 
 mod frames;
 mod parts;
-pub mod report;
 mod sizes;
 pub mod trailing;
 mod walk;
@@ -206,21 +205,6 @@ fn report_of<A: Allocator>(
         trailing,
         is_right,
     }
-}
-
-/// Whether there is no place, the expected number of samples, if there is one, and no other MD5 sum.
-pub fn has_nothing_wrong<A: Allocator>(
-    found: &Found<A>,
-    expected: Option<u64>,
-    md5: Md5Verdict,
-) -> bool
-    ensures nothing_is_wrong { IsTrue result
-        ↔ NothingIsWrong found.now (or_zero expected) md5 }
-{
-    let expected = expected.unwrap_or(0);
-    found.places.first.is_none()
-        && (expected == 0 || expected == found.samples)
-        && !matches!(md5, Md5Verdict::Wrong)
 }
 
 // Finds frames and faults up to the end, or to an `IoError`.

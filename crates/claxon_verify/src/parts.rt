@@ -32,7 +32,6 @@ ghost use Rattle.claxon_verify.specs.Verify.{
   VerifyIsQuiet,
 };
 
-use crate::report::{Notes, Report};
 use crate::report_of;
 use crate::trailing::BytesAfter;
 use crate::walk::{ByteRange, Walk, too_many, with_frame};
@@ -43,8 +42,8 @@ use claxon::{Error, Result};
 use claxon_blocks::frames::{FirstBytes, FrameError, is_32_bit_fault};
 use claxon_command_line::progress::Progress;
 use claxon_heads::{BytesRead, read_head};
-use claxon_places::{FoundFrame, Scan, Scanned};
 use claxon_recovery::{Cause, Damage, Part, Parts};
+use claxon_report::{FoundFrame, Notes, Report, Scan, Scanned};
 use std::alloc::Global;
 use std::io::{self, ErrorKind, Write};
 use std::result;

@@ -2,8 +2,8 @@
 ghost use Rattle.std.specs.Prelude.{◌≡◌, []};
 ghost use Rattle.claxon_verify.specs.Walk.{AddsSize, AreSizesOf, differing_sizes, or_else};
 
-use crate::report::BlockSizes;
 use claxon::frame::BlockInfo;
+use claxon_report::BlockSizes;
 
 /// The block sizes so far.
 #[derive(Clone, Copy)]

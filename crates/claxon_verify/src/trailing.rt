@@ -18,10 +18,10 @@ ghost use Rattle.claxon_verify.specs.Trailing.{
 };
 ghost use Rattle.claxon_verify.specs.Walk.{IsFailedRead};
 
-use crate::report::Trailing;
 use claxon::Error;
 use claxon::fault_texts::SYNC_CODE_MISSING;
 use claxon_blocks::frames::FirstBytes;
+use claxon_report::Trailing;
 use std::io::ErrorKind;
 
 /// What is kept of bytes that are no frame: the first eight, or those up to a byte of 0xff and any after it; and whether each

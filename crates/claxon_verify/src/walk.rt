@@ -23,7 +23,6 @@ ghost use Rattle.claxon_verify.specs.Walk.{
 };
 ghost use Rattle.claxon_blocks.specs.HashBlock.{HashesToo};
 
-use crate::report::{Notes, Trailing};
 use crate::sizes::SizesSoFar;
 use crate::trailing::{BytesAfter, is_failed_read, is_no_sync_code};
 use claxon::frame::DecodedFrame;
@@ -33,7 +32,7 @@ use claxon_blocks::fit::samples_fit;
 use claxon_blocks::frames::FrameError;
 use claxon_blocks::hashing::hash_block;
 use claxon_md5::Md5;
-use claxon_places::{Damage, FoundFrame, KeptPlaces, Scan, Scanned};
+use claxon_report::{Damage, FoundFrame, KeptPlaces, Notes, Scan, Scanned, Trailing};
 use std::alloc::Allocator;
 
 /// What was found so far.

@@ -3,7 +3,7 @@ use crate::reports::report_of;
 use claxon::frame::FrameReader;
 use claxon::input::BufferedReader;
 use claxon_commands::verify::command;
-use claxon_places::Damage;
+use claxon_report::Damage;
 use claxon_testing::answers::{
     FIVES, FRAME, Fault, Run, Step, answers_each, end_of, fault_of, frames_in_order, joined,
     run_of, two_frames,

@@ -2,8 +2,8 @@
 use crate::reports::report_of;
 use crate::streams::{FIXED, VARIABLE, in_order};
 use crate::verify::{GREATEST, LEAST};
+use claxon_report::Notes;
 use claxon_testing::answers::{FRAME, SECOND, head, joined};
-use claxon_verify::report::Notes;
 use std::alloc::{AllocError, Global};
 use std::io::Cursor;
 use std::test::Fail;

@@ -2,9 +2,8 @@
 use crate::reports::{report_by_parts, report_of, report_with};
 use crate::streams::{FIXED, OTHER_RATE, RATE, VARIABLE, frame};
 use crate::verify::{CRC, Found, Wrong, found_of};
-use claxon_places::Places;
+use claxon_report::{Places, Report, Trailing};
 use claxon_testing::answers::{Fault, fault_of, head};
-use claxon_verify::report::{Report, Trailing};
 use linked_list_allocator::LocalHeap;
 use std::alloc::{AllocError, Allocator, Global};
 use std::io::Cursor;

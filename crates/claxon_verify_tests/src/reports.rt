@@ -1,8 +1,8 @@
 //! Reports of streams.
 use claxon::input::ReadBytes;
 use claxon_command_line::progress::Progress;
+use claxon_report::Report;
 use claxon_testing::doubles::sinks::Sink;
-use claxon_verify::report::Report;
 use claxon_verify::{verify, verify_parts};
 use std::alloc::{Allocator, Global};
 use std::io::ErrorKind;

@@ -2,7 +2,7 @@ use crate::reports::{report_by_parts, report_of};
 use crate::streams::{FIXED, OTHER_RATE, frame, in_order};
 use claxon::running::Running;
 use claxon_blocks::frames::FirstBytes;
-use claxon_verify::report::{Report, Trailing};
+use claxon_report::{Report, Trailing};
 use claxon_verify::trailing::BytesAfter;
 use std::alloc::{AllocError, Global};
 use std::io::Cursor;

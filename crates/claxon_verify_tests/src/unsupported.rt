@@ -1,7 +1,8 @@
 //! Streams with metadata blocks that aren't supported, whose frames are judged.
 use crate::reports::report_of;
+use claxon_heads::UnsupportedBlock;
+use claxon_report::Report;
 use claxon_testing::answers::{FRAME, Fault, fault_of, head, joined};
-use claxon_verify::report::{Report, UnsupportedBlock};
 use std::alloc::{AllocError, Global};
 use std::io::Cursor;
 use std::test::Fail;

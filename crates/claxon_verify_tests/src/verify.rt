@@ -3,14 +3,13 @@ use crate::reports::report_of;
 use claxon_blocks::md5_verdict::Md5Verdict;
 use claxon_command_line::progress::Progress;
 use claxon_commands::verify::command;
-use claxon_places::{Damage, Place};
+use claxon_report::{Damage, Place, Report};
 use claxon_testing::answers::{
     DEEP_FRAME, FRAME, Fault, PAIRS, SECOND, fault_of, frames_in_order, head, joined,
 };
 use claxon_testing::command_lines::{Outcome, is_outcome, owned};
 use claxon_testing::doubles::sinks::Sink;
 use claxon_testing::temporary_files::{file_of, path_of};
-use claxon_verify::report::Report;
 use claxon_verify::verify;
 use std::alloc::{AllocError, Global};
 use std::fs;

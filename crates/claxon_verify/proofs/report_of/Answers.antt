@@ -2,10 +2,10 @@ use Rattle.std.proofs.Common.{◌≡◌, ◌++◌, ◌∙◌, ℕ, refl, subst}
 use Rattle.std.specs.Prelude.{Option, None, Some}
 use Rattle.std.specs.Option.{unwrap_or}
 use Rattle.claxon.specs.MetadataBlock.{or_zero}
-use Rattle.claxon_places.specs.Kept.{AreKept}
-use Rattle.claxon_places.specs.Places.{ended_place, last_place, list_of}
-use Rattle.claxon_places.specs.declared.place.Place.{Place}
-use Rattle.claxon_places.proofs.Keeping.{keeps_both}
+use Rattle.claxon_report.specs.Kept.{AreKept}
+use Rattle.claxon_report.specs.Places.{ended_place, last_place, list_of}
+use Rattle.claxon_report.specs.declared.place.Place.{Place}
+use Rattle.claxon_report.proofs.Keeping.{keeps_both}
 use Rattle.claxon_verify.proofs.report_of.Goals as goal
 
 -- no number is 0

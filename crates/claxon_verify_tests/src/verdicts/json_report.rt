@@ -1,9 +1,9 @@
 //! The objects of files, as RFC 8259 has them.
 use super::reports::{Stream, report};
 use claxon::Error;
+use claxon_report::Trailing;
 use claxon_verdict::json_report::{error_object, object, report_object, wrong_head_object};
 use claxon_verdict::verdict::{Verdict, WrongHead};
-use claxon_verify::report::Trailing;
 use std::alloc::{AllocError, Global};
 use std::test::Fail;
 

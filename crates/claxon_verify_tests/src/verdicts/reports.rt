@@ -5,8 +5,8 @@ use claxon::metadata::StreamInfo;
 use claxon::running::Running;
 use claxon_blocks::frames::{FirstBytes, FrameError};
 use claxon_blocks::md5_verdict::Md5Verdict;
-use claxon_places::{Damage, Gap, Place, Places};
-use claxon_verify::report::{BlockSizes, Found, Notes, Report, Trailing, UnsupportedBlock};
+use claxon_heads::UnsupportedBlock;
+use claxon_report::{BlockSizes, Damage, Found, Gap, Notes, Place, Places, Report, Trailing};
 use std::alloc::{AllocError, Global};
 
 /// What a report is about.

@@ -2,12 +2,11 @@
 use super::reports::{Stream, fault, place, report};
 use claxon::Error;
 use claxon::fault_texts::FRAME_CRC_MISMATCH;
-use claxon_places::{Damage, Gap, Place};
+use claxon_report::{Damage, Gap, Place, Trailing};
 use claxon_verdict::text::{
     SaidBy, head_text, left_out_line, place_line, place_text, verdict_text, wrong_head_text,
 };
 use claxon_verdict::verdict::{Verdict, WrongHead};
-use claxon_verify::report::Trailing;
 use std::alloc::{AllocError, Global};
 use std::test::Fail;
 

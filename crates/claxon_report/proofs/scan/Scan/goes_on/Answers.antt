@@ -1,0 +1,15 @@
+use Rattle.std.proofs.Common.{arith}
+use Rattle.std.proofs.lemmas.Grind.{common_steps}
+use Rattle.claxon_report.proofs.scan.Scan.goes_on.Goals as goal
+
+pub returns-in-Some : goal.returns-in-Some
+returns-in-Some c = grind (arith, common_steps)
+
+pub returns-in-None : goal.returns-in-None
+returns-in-None c = grind (arith, common_steps)
+
+pub returns-in-None-2 : goal.returns-in-None-2
+returns-in-None-2 c = grind (arith, common_steps)
+
+pub returns-in-None-3 : goal.returns-in-None-3
+returns-in-None-3 c = grind (arith, common_steps)
