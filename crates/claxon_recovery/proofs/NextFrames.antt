@@ -15,7 +15,7 @@ use Rattle.claxon_recovery.specs.declared.part.FrameThere.{FrameThere}
 use Rattle.claxon_recovery.specs.declared.part.Part.{Part}
 use Rattle.claxon_recovery.specs.declared.part.Part.TheVariants.{Frame as FramePart, Damage as DamagePart}
 use Rattle.claxon_recovery.specs.declared.parts.Parts.{Parts}
-use Rattle.claxon_recovery.proofs.Reading.{fails_after, reads_both, reads_none}
+use Rattle.claxon_recovery.proofs.Reading.{fails_after, reads_both}
 
 -- ---- positions at which no frame begins, one after another
 
@@ -51,22 +51,6 @@ pub record DamageSoFar {R : Type 0} (source : R → Source ℕ) (old now : Parts
   pub reads : Reads (source (parts_source old)) (source (parts_source now)) more
   pub known_is : parts_known now ≡ parts_known old
   pub is : SourceIsKnown source old → FrontPassed (parts_known old) (parts_position old) (unread source old) (parts_position now) (unread source now) count counter
-
-pub nothing_passed : {R : Type 0} (source : R → Source ℕ) (old : Parts R) → DamageSoFar source old old 0
-nothing_passed source old = record {
-  count = 0;
-  counted = omega arith;
-  more = [];
-  reads = reads_none (source (parts_source old));
-  known_is = refl;
-  is = λ known. record {
-    front = [];
-    joined = refl;
-    none = record { unsearched = 0; count_is = refl; none = refl };
-    many = omega arith;
-    at_is = omega arith;
-  };
-}
 
 module _ {R : Type 0} {source : R → Source ℕ} {old mid : Parts R} {counter : ℕ} (h : DamageSoFar source old mid counter) where
   -- the first positions, and those of damage after them
